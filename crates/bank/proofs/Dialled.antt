@@ -17,7 +17,7 @@ use Rattle.std.specs.declared.result.Result.the-variants.{Ok, Err}
 use Rattle.bank.specs.declared.dial.Dial.{Dial}
 use Rattle.bank.specs.Ports.{Port, rest, popped, waiting-at, first-at, rest-at, ranged, first}
 use Rattle.bank.specs.Gauges.{reading, gauged}
-use Rattle.bank.specs.Dials.{Setting, still, still-at, setting-of, set-at, dialled}
+use Rattle.bank.specs.Dials.{Setting, still, still-at, setting-of, set-at, spent, dialled}
 
 pub still-copies : (d : Dial) → setting-of d ≡ still-at 0 → (n k : ℕ) → setting-of (getD (replicate n d) k still) ≡ still-at k
 still-copies d e zero k = refl
@@ -47,9 +47,9 @@ module _ (f : ℕ → Option ℕ) (s : ℕ → Setting) (p : ℕ) (h : p ≤ 31)
       let a = le-leb p 31 h in
       rw (a, e) (first-copies p x (s p .conversions) (s p .digits) n)
 
-  pub dialled-rest : dialled f (set-at s p (s p .digits) (s p .conversions - 1)) ≡ rest-at (dialled f s) p
+  pub dialled-rest : dialled f (set-at s p (spent (s p))) ≡ rest-at (dialled f s) p
   dialled-rest = λ i. λ k. at k i where
-    at : (k : ℕ) → dialled f (set-at s p (s p .digits) (s p .conversions - 1)) k ≡ rest-at (dialled f s) p k
+    at : (k : ℕ) → dialled f (set-at s p (spent (s p))) k ≡ rest-at (dialled f s) p k
     at k =
         let a = le-leb p 31 h in
         ⊎-elim

@@ -2,14 +2,13 @@
 use mathlib.Core.Path.{_≡_}
 use mathlib.Core.List.{List}
 use mathlib.Core.Bool.{cond, _&&_}
-use Prim.Native.Nat.{ℕ}
+use Prim.Native.Nat.{ℕ, _-_}
 use native.Mathlib.Omega.{arith}
 use lib.ListN.{getD, replicate, length-replicate}
 use lib.IntN.{ℤ, pos}
 use lib.Dec.{leb, eqb}
-use Rattle.std.specs.Options.{mapped}
 use Rattle.std.specs.declared.option.Option.{Option}
-use Rattle.std.specs.declared.option.Option.the-variants.{Some, None}
+use Rattle.std.specs.declared.option.Option.the-variants.{None}
 use Rattle.std.specs.declared.result.Result.{Result}
 use Rattle.std.specs.declared.result.Result.the-variants.{Ok}
 use Rattle.fault.specs.declared.faults.Fault.{Fault}
@@ -17,8 +16,8 @@ use Rattle.bank.specs.declared.factor.CornerFactor.{CornerFactor}
 use Rattle.bank.specs.declared.dial.Dial.{Dial}
 use Rattle.bank.specs.Ports.{Port, Sound, ranged}
 use Rattle.bank.specs.Gauges.{gauged}
-use Rattle.bank.specs.GaugeLaws.{Tuned, gauged-sound}
-use Rattle.bank.specs.Fitting.{factor-at, thousandths-of}
+use Rattle.bank.specs.GaugeLaws.{gauged-sound}
+use Rattle.bank.specs.Fitting.{factor-at, tuned-at}
 
 -- what a dial is set to: its digits, and how often they are still given
 pub record Setting : Type 0 where
@@ -42,16 +41,16 @@ still-at p = record { digits = pos 0; conversions = 0 }
 abbrev pub placed : ℕ → Result (Unit {0}) Fault
 placed p = ranged p (Ok tt)
 
-abbrev pub set-at : (ℕ → Setting) → ℕ → ℤ → ℕ → ℕ → Setting
-set-at s p d n k = cond (leb p 31 && eqb k p) (record { digits = d; conversions = n }) (s k)
+abbrev pub set-at : (ℕ → Setting) → ℕ → Setting → ℕ → Setting
+set-at s p t k = cond (leb p 31 && eqb k p) t (s k)
+
+-- a setting after one conversion
+abbrev pub spent : Setting → Setting
+spent t = record { digits = t .digits; conversions = t .conversions - 1 }
 
 -- the same digits wait as often as conversions are left, where a gauge is fitted
 abbrev pub dialled : (ℕ → Option ℕ) → (ℕ → Setting) → ℕ → Port
 dialled f s p = gauged (f p) (replicate (s p .conversions) (s p .digits))
-
-pub tuned-at : (o : Option CornerFactor) → Tuned (mapped thousandths-of o)
-tuned-at None = tt
-tuned-at (Some c) = c .tuned
 
 pub dialled-sound : (fs : List (Option CornerFactor)) (ds : List Dial) (p : ℕ) → Sound (dialled (factor-at fs) (setting-at ds) p)
 dialled-sound fs ds p = gauged-sound (factor-at fs p) _ (tuned-at (getD fs p None)) (rw length-replicate (getD ds p still .short))

@@ -8,6 +8,7 @@ use Rattle.std.specs.declared.option.Option.the-variants.{Some, None}
 use Rattle.std.specs.declared.result.Result.{Result}
 use Rattle.std.specs.declared.result.Result.the-variants.{Ok, Err}
 use Rattle.bank.specs.declared.factor.CornerFactor.{CornerFactor}
+use Rattle.bank.specs.GaugeLaws.{Tuned}
 
 abbrev pub thousandths-of : CornerFactor → ℕ
 thousandths-of f = f .thousandths
@@ -20,3 +21,13 @@ factor-at fs p = mapped thousandths-of (getD fs p None)
 abbrev pub mapped-ok : {A B E : Type 0} → (A → B) → Result A E → Result B E
 mapped-ok f (Ok x) = Ok (f x)
 mapped-ok f (Err e) = Err e
+
+-- a fitted factor is at most 1,500 thousandths
+pub tuned-at : (o : Option CornerFactor) → Tuned (mapped thousandths-of o)
+tuned-at None = tt
+tuned-at (Some c) = c .tuned
+
+-- how many gauges a port has
+abbrev pub count-of : Option ℕ → ℕ
+count-of None = 0
+count-of (Some f) = 1

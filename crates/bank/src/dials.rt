@@ -3,7 +3,7 @@ ghost use mathlib.Core.Path.{_≡_};
 ghost use Prim.Native.Nat.{_<_};
 ghost use Rattle.bank.specs.Gauges.{fits, refitted, fit-at};
 ghost use Rattle.bank.specs.Fitting.{factor-at};
-ghost use Rattle.bank.specs.Dials.{setting-of, setting-at, still-at, placed, set-at, dialled, dialled-sound};
+ghost use Rattle.bank.specs.Dials.{setting-of, setting-at, still-at, placed, set-at, spent, dialled, dialled-sound};
 use crate::checked_port;
 use crate::dial::Dial;
 use crate::fitting::Fitting;
@@ -26,6 +26,17 @@ fn still_dial() -> Dial
     Dial {
         digits: 0,
         conversions: 0,
+    }
+}
+
+// A dial after one conversion.
+fn converted(dial: Dial) -> Dial
+    requires { ⌜ 0 < dial .conversions ⌝ }
+    ensures { λ r. ⌜ setting-of r ≡ spent (setting-of dial) ⌝ }
+{
+    Dial {
+        digits: dial.digits,
+        conversions: dial.conversions - 1,
     }
 }
 
@@ -54,31 +65,34 @@ impl Dials {
     pub fn set(&mut self, port: u8, digits: i32, conversions: u16) -> Result<(), Fault>
         ensures answer { λ r. ⌜ r ≡ placed port ⌝ }
         ensures factors { λ _. ⌜ factor-at (now (self .exit) .fitting .factors) ≡ factor-at (now (self .entry) .fitting .factors) ⌝ }
-        ensures settings { λ _. ⌜ setting-at (now (self .exit) .dials) ≡ set-at (setting-at (now (self .entry) .dials)) port digits conversions ⌝ }
+        ensures settings { λ _. ⌜ setting-at (now (self .exit) .dials) ≡ set-at (setting-at (now (self .entry) .dials)) port (record { digits = digits; conversions = conversions }) ⌝ }
     {
         let place = checked_port(port)?;
-        self.turn(place, digits, conversions);
+        self.turn(
+            place,
+            Dial {
+                digits,
+                conversions,
+            },
+        );
         Ok(())
     }
 
-    // Turns the dial at a place to these digits and conversions.
-    fn turn(&mut self, place: usize, digits: i32, conversions: u16)
+    // Puts a dial in the place of another.
+    fn turn(&mut self, place: usize, dial: Dial)
         requires { ⌜ place < 32 ⌝ }
         ensures factors { λ _. ⌜ now (self .exit) .fitting ≡ now (self .entry) .fitting ⌝ }
-        ensures settings { λ _. ⌜ setting-at (now (self .exit) .dials) ≡ set-at (setting-at (now (self .entry) .dials)) place digits conversions ⌝ }
+        ensures settings { λ _. ⌜ setting-at (now (self .exit) .dials) ≡ set-at (setting-at (now (self .entry) .dials)) place (setting-of dial) ⌝ }
     {
-        self.dials[place] = Dial {
-            digits,
-            conversions,
-        };
+        self.dials[place] = dial;
     }
 
     // What the dial at a place is set to.
-    fn dial(&self, place: usize) -> Dial
-        requires { ⌜ place < 32 ⌝ }
-        ensures { λ r. ⌜ setting-of r ≡ setting-at (now (self .entry) .dials) place ⌝ }
+    fn dial(&self, at: usize) -> Dial
+        requires { ⌜ at < 32 ⌝ }
+        ensures { λ r. ⌜ setting-of r ≡ setting-at (now (self .entry) .dials) at ⌝ }
     {
-        self.dials[place]
+        self.dials[at]
     }
 }
 
@@ -88,10 +102,7 @@ pub impl GaugeBank for Dials as DialsBank {
     ghost sound = { λ s p. dialled-sound (s .fitting .factors) (s .dials) p };
 
     fn gauges(&self, port: u8) -> Result<u8, Fault> {
-        match self.fitting.at(port)? {
-            None => Ok(0),
-            Some(_) => Ok(1),
-        }
+        self.fitting.gauges(port)
     }
 
     fn waiting(&self, port: u8) -> Result<u16, Fault> {
@@ -111,7 +122,7 @@ pub impl GaugeBank for Dials as DialsBank {
         if dial.conversions == 0 {
             return Err(Cause::TooFewReadings.at(place));
         }
-        self.turn(place, dial.digits, dial.conversions - 1);
+        self.turn(place, converted(dial));
         Ok(factor.reading(dial.digits))
     }
 }

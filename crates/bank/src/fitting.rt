@@ -6,7 +6,7 @@ ghost use Rattle.std.specs.declared.result.Result.the-variants.{Ok};
 ghost use Rattle.std.specs.Options.{mapped};
 ghost use Rattle.bank.specs.Ports.{ranged};
 ghost use Rattle.bank.specs.Gauges.{held, reading, tuned-to, fits, refitted, fit-at};
-ghost use Rattle.bank.specs.Fitting.{thousandths-of, factor-at, mapped-ok};
+ghost use Rattle.bank.specs.Fitting.{thousandths-of, factor-at, mapped-ok, count-of};
 use crate::checked_port;
 use crate::factor::CornerFactor;
 use crate::reading::Mark;
@@ -32,6 +32,7 @@ fn held_digits(digits: i32) -> i32
 }
 
 const LOWEST: u16 = 500;
+
 const HIGHEST: u16 = 1500;
 
 impl CornerFactor {
@@ -91,5 +92,15 @@ impl Fitting {
     {
         let place = checked_port(port)?;
         Ok(self.factors[place])
+    }
+
+    // How many gauges are fitted at a port: one or none.
+    pub fn gauges(&self, port: u8) -> Result<u8, Fault>
+        ensures { λ r. ⌜ r ≡ ranged port (Ok (count-of (factor-at (now (self .entry) .factors) port))) ⌝ }
+    {
+        match self.at(port)? {
+            None => Ok(0),
+            Some(_) => Ok(1),
+        }
     }
 }

@@ -5,6 +5,9 @@ mod factor;
 mod fitting;
 mod gauge_bank;
 mod reading;
+mod record;
+mod recording;
+mod scan;
 
 pub use dials::Dials;
 pub use dials::DialsBank;
@@ -16,3 +19,6 @@ pub use reading::MarkPartialEq;
 pub use reading::Reading;
 pub use reading::ReadingDebug;
 pub use reading::ReadingPartialEq;
+pub use record::Record;
+pub use recording::Recording;
+pub use recording::RecordingBank;

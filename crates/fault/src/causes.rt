@@ -63,19 +63,15 @@ impl Cause {
     {
         match self {
             Cause::NoEnd | Cause::ShortBuffer | Cause::LongCommand => Layer::Line,
-            Cause::UnknownCommand
-            | Cause::Malformed
-            | Cause::ParameterCount
-            | Cause::OutOfRange => Layer::Command,
+            Cause::UnknownCommand | Cause::Malformed | Cause::ParameterCount | Cause::OutOfRange =>
+                Layer::Command,
             Cause::PasswordClosed
             | Cause::WrongPassword
             | Cause::NominalSet
             | Cause::NoDeadLoad
             | Cause::SpanNotPositive => Layer::Weighing,
-            Cause::TooFewReadings
-            | Cause::PortRange
-            | Cause::FactorRange
-            | Cause::NinthGauge => Layer::Bank,
+            Cause::TooFewReadings | Cause::PortRange | Cause::FactorRange | Cause::NinthGauge =>
+                Layer::Bank,
         }
     }
 

@@ -1,18 +1,15 @@
 use borrow.Author.Needs.{needs}
 use mathlib.Core.Path.{_≡_, ap, sym, _∙_}
-use mathlib.Core.List.{List}
-use Prim.Native.Nat.{ℕ, _-_}
-use lib.IntN.{ℤ}
+use Prim.Native.Nat.{ℕ}
 use mir.Syntax.{w32}
 use mir.Val.{SFits, toZ, ofZ}
 use Rattle.std.proofs.shelf.Signed.{toZ-ofZ}
 use Rattle.std.specs.Options.{mapped}
 use Rattle.std.specs.declared.option.Option.the-variants.{Some}
 use Rattle.std.specs.declared.result.Result.the-variants.{Ok}
-use Rattle.bank.specs.declared.fitting.Fitting.{Fitting}
 use Rattle.bank.specs.Fitting.{thousandths-of, factor-at}
 use Rattle.bank.specs.Gauges.{reading}
-use Rattle.bank.specs.Dials.{Setting, setting-at, set-at, dialled}
+use Rattle.bank.specs.Dials.{Setting, setting-at, set-at, spent, dialled}
 use Rattle.bank.proofs.Ranges.{ranged-ok}
 use Rattle.bank.proofs.Dialled.{dialled-first, dialled-rest}
 use Rattle.bank.proofs.dials.DialsBank.take.Needs as need
@@ -34,7 +31,7 @@ returns c =
     let was : t (c .in-Continue-place .place) ≡ t p = ap t place in
     let eD : d ≡ t p .digits = ap (λ (u : Setting). u .digits) (c .dial-dial .ensures ∙ was) in
     let eN : c .dial-dial .result .conversions ≡ t p .conversions = ap (λ (u : Setting). u .conversions) (c .dial-dial .ensures ∙ was) in
-    let eT : setting-at (c .turn .last .self .dials) ≡ set-at t p (t p .digits) (t p .conversions - 1) = c .turn .ensures .settings ∙ (λ i. set-at t (place i) ((back ∙ eD) i) (eN i - 1)) in
+    let eT : setting-at (c .turn .last .self .dials) ≡ set-at t p (spent (t p)) = c .turn .ensures .settings ∙ (λ i. set-at t (place i) ((c .converted .ensures ∙ ap spent (c .dial-dial .ensures ∙ was)) i)) in
     record {
       answer = ap Ok (c .reading .ensures ∙ ap (reading x) (back ∙ eD)) ∙ dialled-first f t p (here .0) x some (λ e. c .if-dial-eq0 .left (eN ∙ e));
       after = (λ i. dialled (factor-at (c .turn .ensures .factors i .factors)) (eT i)) ∙ dialled-rest f t p (here .0);
