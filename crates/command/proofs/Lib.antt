@@ -1,0 +1,14 @@
+mod Fronts
+mod Splits
+mod Powers
+mod Sizes
+mod Rows
+mod Words
+mod Options
+mod Quoted
+mod Ranges
+mod Gaps
+mod Spelled
+mod Cases
+mod Written
+mod Meant

@@ -1,0 +1,11 @@
+pub mod Cuts
+pub mod Blanks
+pub mod Numbers
+pub mod Texts
+pub mod Table
+pub mod Arguments
+pub mod Readings
+pub mod Conditions
+pub mod Examples
+pub mod Spellings
+pub mod Meanings

@@ -1,0 +1,4 @@
+pub mod Putting
+pub mod Totals
+pub mod Weighings
+pub mod Sayings

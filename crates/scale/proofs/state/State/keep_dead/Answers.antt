@@ -1,0 +1,6 @@
+use borrow.Author.Needs.{needs}
+use Rattle.scale.proofs.Putting.{put-same}
+use Rattle.scale.proofs.state.State.keep_dead.Needs as need
+
+pub returns-then-self-gt0 : need.returns-then-self-gt0
+returns-then-self-gt0 g c = search (needs, put-same)

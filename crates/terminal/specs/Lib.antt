@@ -1,0 +1,7 @@
+pub mod Ears
+pub mod Stops
+pub mod Buses
+pub mod Serves
+pub mod Transcripts
+pub mod Calls
+pub mod Laws

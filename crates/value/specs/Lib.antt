@@ -1,0 +1,11 @@
+pub mod Rounding
+pub mod Scaled
+pub mod Figures
+pub mod Fitting
+pub mod Formats
+pub mod Written
+pub mod Blocks
+pub mod Output
+pub mod Status
+pub mod Plain
+pub mod Examples
