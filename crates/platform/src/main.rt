@@ -1,5 +1,6 @@
 // A platform on four gauges and a scale of its own, served from standard input.
 ghost use Prim.Native.Nat.{_≤_};
+ghost use lib.ListN.{length};
 ghost use Rattle.std.specs.Vec.{made};
 use bank::Dials;
 use bank::DialsBank;
@@ -43,12 +44,12 @@ fn dials() -> Result<Dials, Fault> {
 }
 
 // Reads from standard input into the buffer until it is full or the input ends: how many bytes it holds.
-fn fill(rt: &LibcRuntime, buffer: &mut [u8; MOST]) -> io::Result<usize>
-    ensures { λ r. ⌜ made r (λ n. n ≤ 4096) ⌝ }
+fn fill(rt: &LibcRuntime, buffer: &mut [u8]) -> io::Result<usize>
+    ensures { λ r. ⌜ made r (λ n. n ≤ length (now (buffer .entry))) ⌝ }
 {
     let mut input = rt.stdin();
     let mut len = 0;
-    for _ in 0..MOST {
+    for _ in 0..buffer.len() {
         let n = input.read(&mut buffer[len..])?;
         if n == 0 {
             break;
