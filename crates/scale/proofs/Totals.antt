@@ -94,8 +94,7 @@ totalled-all m f p n i load mark h k few so =
     let e : i ≡ n = omega arith in
     let z : n - i ≡ 0 = omega arith in
     let a : load ≡ summed n (m p .waiting) = sym (+ℤ-idr load) ∙ ap (λ (t : ℕ). load +ℤ summed t (drop i (m p .waiting))) (sym z) ∙ so .sum in
-    let b : mark ≡ marks n (m p .waiting) = sym (either-clear mark) ∙ ap (λ (t : ℕ). either mark (marks t (drop i (m p .waiting)))) (sym z) ∙ so .mark-is in
-    (
+    let b : mark ≡ marks n (m p .waiting) = sym (either-clear mark) ∙ ap (λ (t : ℕ). either mark (marks t (drop i (m p .waiting)))) (sym z) ∙ so .mark-is in (
       (λ t. record { load = a t; mark = b t }),
       so .ports ∙ ap (λ (t : ℕ). put-port m p (dropped t (m p))) e,
       omega (arith, so .size, mul-le-mul-right (8 * most) (h-few h k few)),

@@ -93,8 +93,7 @@ module _ (s : Settings) (m f : ℕ → Port) (p i : ℕ) (vs : List Measured) (m
 pub weighed-all : (s : Settings) (m f : ℕ → Port) (p i : ℕ) (vs : List Measured) → length vs ≤ i → i ≤ length vs → Weighed s m f p i vs
     → (vs ≡ weighings s (length vs) (m p .waiting)) × (f ≡ put-port m p (dropped (readings-for s (length vs)) (m p)))
 weighed-all s m f p i vs h k so =
-    let e : i ≡ length vs = omega arith in
-    (
+    let e : i ≡ length vs = omega arith in (
       sym (take-all i vs (omega arith)) ∙ so .so-far ∙ ap (λ (j : ℕ). weighings s j (m p .waiting)) e,
       so .ports ∙ ap (λ (j : ℕ). put-port m p (dropped (readings-for s j) (m p))) e,
     )

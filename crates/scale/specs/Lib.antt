@@ -12,3 +12,4 @@ pub mod Entries
 pub mod Queries
 pub mod Blocks
 pub mod Hearing
+pub mod Laws

@@ -29,12 +29,9 @@ impl Answer {
             Answer::Silence => 0,
             Answer::Line(plain) => plain.write(out),
             Answer::Memory(memory) => write_line(&memory_text(memory), out),
-            Answer::Value(ticket) => ticket.format.write(
-                &[ticket.measured],
-                address.number,
-                ticket.nominal,
-                out,
-            ),
+            Answer::Value(ticket) => ticket
+                .format
+                .write(&[ticket.measured], address.number, ticket.nominal, out),
         }
     }
 }

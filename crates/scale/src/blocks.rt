@@ -9,13 +9,13 @@ ghost use Rattle.value.specs.Written.{granted, written};
 ghost use Rattle.scale.specs.Bounds.{Bounded, Small};
 ghost use Rattle.scale.specs.Measuring.{put-port, dropped, measures, measured-port};
 ghost use Rattle.scale.specs.Blocks.{weighings, readings-for, blocks, block-port, written-by, holding, refused-or};
-use bank::GaugeBank;
 use crate::address::Address;
 use crate::measuring::enough;
 use crate::measuring::measure;
 use crate::settings::Settings;
 use crate::state::State;
 use crate::state::Ticket;
+use bank::GaugeBank;
 use fault::Fault;
 use value::block::Measured;
 
@@ -64,9 +64,7 @@ impl Settings {
         ensures after { λ _. ⌜ shows (now (bank .exit)) ≡ put-port (shows (now (bank .entry))) (address .number) (dropped (readings-for (now (self .entry)) (length (now (values .entry)))) (shows (now (bank .entry)) (address .number))) ⌝ }
     {
         self.weigh_all(bank, address, values)?;
-        Ok(self
-            .format
-            .write(values, address.number, self.nominal, out))
+        Ok(self.format.write(values, address.number, self.nominal, out))
     }
 
     // Writes a block of so many values, or refuses where too few readings wait for all of them.
@@ -83,7 +81,11 @@ impl Settings {
         ensures buffer { λ _. ⌜ now (out .exit) ≡ written-by (now (out .entry)) (blocks (address .number) count (now (self .entry)) (shows (now (bank .entry)) (address .number))) ⌝ }
         ensures after { λ _. ⌜ shows (now (bank .exit)) ≡ put-port (shows (now (bank .entry))) (address .number) (block-port count (now (self .entry)) (shows (now (bank .entry)) (address .number))) ⌝ }
     {
-        enough(bank, address, u16::from(count) * u16::from(self.averaging.readings()))?;
+        enough(
+            bank,
+            address,
+            u16::from(count) * u16::from(self.averaging.readings()),
+        )?;
         if count == 1 {
             return self.write_all(bank, address, &mut [UNMEASURED], out);
         }
@@ -94,7 +96,11 @@ impl Settings {
 
 impl State {
     // Measures one value and holds it until the scale is selected.
-    pub(crate) fn hold<B: GaugeBank>(&mut self, bank: &mut B, address: Address) -> Result<usize, Fault>
+    pub(crate) fn hold<B: GaugeBank>(
+        &mut self,
+        bank: &mut B,
+        address: Address,
+    ) -> Result<usize, Fault>
         requires { ⌜ Bounded (now self) ⌝ }
         ensures answer { λ r. ⌜ r ≡ mapped-ok length (refused-or (measures (address .number) (now (self .entry) .force .averaging) (shows (now (bank .entry)) (address .number)))) ⌝ }
         ensures state { λ _. ⌜ now (self .exit) ≡ holding (now (self .entry)) (measures (address .number) (now (self .entry) .force .averaging) (shows (now (bank .entry)) (address .number))) ⌝ }

@@ -7,9 +7,6 @@ ghost use Rattle.scale.specs.Bounds.{Bounded};
 ghost use Rattle.scale.specs.Measuring.{put-port};
 ghost use Rattle.scale.specs.States.{calibrated};
 ghost use Rattle.scale.specs.Calibrating.{load-given, in-units, given-port, dead-loads, full-loads, tares};
-use bank::GaugeBank;
-use command::Argument;
-use command::Order;
 use crate::address::Address;
 use crate::answers::Answer;
 use crate::averaging::Averaging;
@@ -17,6 +14,9 @@ use crate::display::Display;
 use crate::measuring::measure;
 use crate::state::State;
 use crate::weighing::less;
+use bank::GaugeBank;
+use command::Argument;
+use command::Order;
 use fault::Cause;
 use fault::Fault;
 use value::plain::Plain;
@@ -112,7 +112,11 @@ impl State {
     }
 
     // Makes the gross load the tare, and shows the net weight.
-    pub(crate) fn take_tare<B: GaugeBank>(&mut self, bank: &mut B, address: Address) -> Result<Answer, Fault>
+    pub(crate) fn take_tare<B: GaugeBank>(
+        &mut self,
+        bank: &mut B,
+        address: Address,
+    ) -> Result<Answer, Fault>
         requires { ⌜ Bounded (now self) ⌝ }
         ensures answer { λ r. ⌜ r ≡ tares (address .number) (now (self .entry)) (shows (now (bank .entry)) (address .number)) .reply ⌝ }
         ensures state { λ _. ⌜ now (self .exit) ≡ tares (address .number) (now (self .entry)) (shows (now (bank .entry)) (address .number)) .state ⌝ }

@@ -10,7 +10,7 @@ pub enum Display {
 }
 
 impl Display {
-    pub fn from_number(number: u8) -> Option<Display>
+    pub(crate) fn from_number(number: u8) -> Option<Display>
         ensures { λ r. ⌜ r ≡ display-numbered number ⌝ }
     {
         match number {
@@ -20,7 +20,7 @@ impl Display {
         }
     }
 
-    pub fn number(self) -> u8
+    pub(crate) fn number(self) -> u8
         ensures { λ r. ⌜ r ≡ display-number self ⌝ }
     {
         match self {

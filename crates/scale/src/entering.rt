@@ -5,11 +5,11 @@ ghost use Rattle.value.specs.Output.{numbered-format};
 ghost use Rattle.scale.specs.Choices.{averaging-numbered, step-valued, display-numbered};
 ghost use Rattle.scale.specs.Settings.{with-format, with-averaging, with-step, with-display};
 ghost use Rattle.scale.specs.Entering.{byte-of, by-byte, loads-of, renominal, entered};
-use command::Mnemonic;
 use crate::averaging::Averaging;
 use crate::display::Display;
 use crate::settings::Settings;
 use crate::step::Step;
+use command::Mnemonic;
 use value::output::OutputFormat;
 
 // A number that is a byte.

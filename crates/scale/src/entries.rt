@@ -2,14 +2,14 @@
 ghost use mathlib.Core.Path.{_≡_};
 ghost use Rattle.scale.specs.Bounds.{Bounded};
 ghost use Rattle.scale.specs.Entries.{sets, unlocks, relocks, defaults, restarts, enters};
-use command::Mnemonic;
-use command::Order;
 use crate::address::Address;
 use crate::answers::Answer;
 use crate::orders::number_of;
 use crate::orders::text_of;
 use crate::settings::Settings;
 use crate::state::State;
+use command::Mnemonic;
+use command::Order;
 use fault::Cause;
 use fault::Fault;
 use value::plain::Plain;

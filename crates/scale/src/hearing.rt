@@ -12,16 +12,17 @@ ghost use Rattle.scale.specs.Measuring.{put-port};
 ghost use Rattle.bank.specs.Ports.{none};
 ghost use Rattle.value.specs.Written.{granted, written};
 ghost use Rattle.scale.specs.States.{fresh, with-held};
+ghost use Rattle.scale.specs.Laws.{Scale-laws};
 ghost use Rattle.scale.specs.Hearing.{number-of, refused, held-answer, selected, ordered, hears, within, Brief, Silent};
-use bank::GaugeBank;
-use command::Heard;
-use command::Order;
 use crate::address::Address;
 use crate::answers::Answer;
 use crate::modes::Mode;
 use crate::scale::Scale;
 use crate::settings::Settings;
 use crate::state::State;
+use bank::GaugeBank;
+use command::Heard;
+use command::Order;
 use fault::Cause;
 use fault::Fault;
 use value::plain::Plain;
@@ -195,6 +196,7 @@ impl Scale {
         ensures buffer { λ r. ⌜ now (out .exit) ≡ within (length (now (out .entry))) mode (address .number) heard (now (self .entry) .state) (shows (now (bank .entry)) (address .number)) .says ++ drop (r .written) (now (out .entry)) ⌝ }
         ensures brief { λ _. ⌜ Brief ⌝ }
         ensures silent { λ _. ⌜ Silent ⌝ }
+        ensures laws { λ _. ⌜ Scale-laws ⌝ }
     {
         if out.len() < ROOM {
             return Hearing {

@@ -7,11 +7,11 @@ ghost use Rattle.std.specs.declared.result.Result.the-variants.{Ok};
 ghost use Rattle.std.specs.Vec.{made};
 ghost use Rattle.bank.specs.Ports.{most};
 ghost use Rattle.scale.specs.Measuring.{put-port, dropped, enough-for, one-more, mean-of, sums, measures, measured-port};
+use crate::address::Address;
+use crate::averaging::Averaging;
 use bank::GaugeBank;
 use bank::Mark;
 use bank::Reading;
-use crate::address::Address;
-use crate::averaging::Averaging;
 use fault::Cause;
 use fault::Fault;
 
@@ -85,7 +85,11 @@ fn total<B: GaugeBank>(bank: &mut B, address: Address, readings: u8) -> Result<S
 }
 
 // Takes the readings of one measurement, or none where too few wait.
-pub(crate) fn measure<B: GaugeBank>(bank: &mut B, address: Address, averaging: Averaging) -> Result<Measurement, Fault>
+pub(crate) fn measure<B: GaugeBank>(
+    bank: &mut B,
+    address: Address,
+    averaging: Averaging,
+) -> Result<Measurement, Fault>
     ensures answer { λ r. ⌜ r ≡ measures (address .number) averaging (shows (now (bank .entry)) (address .number)) ⌝ }
     ensures after { λ _. ⌜ shows (now (bank .exit)) ≡ put-port (shows (now (bank .entry))) (address .number) (measured-port averaging (shows (now (bank .entry)) (address .number))) ⌝ }
     ensures bound { λ r. ⌜ made r (λ m. natAbs (m .load) ≤ 2 ^ 43) ⌝ }

@@ -2,10 +2,10 @@
 ghost use mathlib.Core.Path.{_≡_};
 ghost use Rattle.scale.specs.Bounds.{Bounded};
 ghost use Rattle.scale.specs.Queries.{tells, asks};
-use command::Mnemonic;
-use command::Order;
 use crate::answers::Answer;
 use crate::state::State;
+use command::Mnemonic;
+use command::Order;
 use fault::Cause;
 use fault::Fault;
 use value::plain::Plain;

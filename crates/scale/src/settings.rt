@@ -1,10 +1,10 @@
 // The settings of a scale.
 ghost use mathlib.Core.Path.{_≡_};
 ghost use Rattle.scale.specs.Settings.{factory};
-use command::Text;
 use crate::averaging::Averaging;
 use crate::display::Display;
 use crate::step::Step;
+use command::Text;
 use value::layout::Layout;
 use value::output::OutputFormat;
 
@@ -24,7 +24,7 @@ pub struct Settings {
 
 impl Settings {
     // The factory settings.
-    pub fn factory() -> Settings
+    pub(crate) fn factory() -> Settings
         ensures { λ r. ⌜ r ≡ factory ⌝ }
     {
         Settings {

@@ -16,7 +16,7 @@ pub enum Step {
 
 impl Step {
     // The step of this many units.
-    pub fn from_value(value: u8) -> Option<Step>
+    pub(crate) fn from_value(value: u8) -> Option<Step>
         ensures { λ r. ⌜ r ≡ step-valued value ⌝ }
     {
         match value {
@@ -32,7 +32,7 @@ impl Step {
     }
 
     // How many units the step has.
-    pub fn value(self) -> u8
+    pub(crate) fn value(self) -> u8
         ensures { λ r. ⌜ r ≡ step-value self ⌝ }
     {
         match self {

@@ -11,13 +11,14 @@ use Rattle.value.specs.Written.{granted, written}
 use Rattle.scale.specs.Hearing.{hears, within}
 use Rattle.scale.specs.Measuring.{put-port}
 use Rattle.scale.proofs.Putting.{put-same}
+use Rattle.scale.proofs.Laws.{scale-laws}
 use Rattle.scale.proofs.Sayings.{brief, silent}
 use Rattle.scale.proofs.scale.Scale.hear.Needs as need
 
 pub returns-then-out-lt-ROOM : need.returns-then-out-lt-ROOM
 returns-then-out-lt-ROOM g c =
     let t = lt-ltb (length (c .args .out .now)) 1088 (c .if-out-lt-ROOM .taken) in
-    record { state = rw t; ports = rw t (put-same (g .B·GaugeBank .shows (c .args .bank .now)) (c .args .address .number)); count = rw t; refusal = rw t (ap Some (c .at .ensures)); buffer = rw t; brief = brief; silent = silent }
+    record { state = rw t; ports = rw t (put-same (g .B·GaugeBank .shows (c .args .bank .now)) (c .args .address .number)); count = rw t; refusal = rw t (ap Some (c .at .ensures)); buffer = rw t; brief = brief; silent = silent; laws = scale-laws }
 
 -- what is short has room
 granted-all : (out bytes : List ℕ) → length bytes ≤ 1088 → 1088 ≤ length out → granted out bytes ≡ bytes
@@ -37,4 +38,5 @@ returns g c =
       buffer = rw t (c .hear .ensures .buffer ∙ (λ i. all i ++ drop (length (granted (c .args .out .now) (o .says))) (c .args .out .now)) ∙ ap (λ (n : ℕ). o .says ++ drop n (c .args .out .now)) (sym (c .hear .ensures .count)));
       brief = brief;
       silent = silent;
+      laws = scale-laws;
     }
