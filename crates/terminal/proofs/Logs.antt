@@ -1,28 +1,27 @@
 -- What each call leaves, one turn of the loop over calls, and the laws of whole runs.
 use mathlib.Core.Path.{_≡_, refl, sym, ap, _∙_}
-use mathlib.Core.List.{List, [], _∷_, _++_, map}
+use mathlib.Core.List.{List, [], _∷_, _++_}
 use mathlib.Core.Bool.{Bool, true, false, cond}
 use Prim.Native.Nat.{ℕ, _+_, _<_, _≤_}
 use lib.Dec.{ltb}
 use lib.ListN.{length, drop, take, getD}
-use Rattle.std.specs.declared.option.Option.the-variants.{Some, None}
+use Rattle.std.specs.declared.option.Option.the-variants.{Some}
 use Rattle.std.proofs.shelf.Lists.{append-assoc, append-nil, drop-more, drop-all, take-at}
 use Rattle.fault.specs.declared.causes.Cause.the-variants.{ShortBuffer}
 use Rattle.fault.specs.Faults.{refusal}
 use Rattle.bank.specs.Ports.{Port}
 use Rattle.junction.specs.Piles.{pile}
 use Rattle.junction.proofs.Piles.{gathers, same-gauges}
-use Rattle.scale.specs.declared.modes.Mode.{Mode}
 use Rattle.scale.specs.declared.modes.Mode.the-variants.{Selected}
 use Rattle.scale.specs.States.{fresh}
 use Rattle.terminal.specs.declared.answers.Obeyed.{Obeyed}
 use Rattle.terminal.specs.declared.answers.Served.{Served}
 use Rattle.terminal.specs.declared.calls.Outcome.the-variants.{Command, Run}
-use Rattle.terminal.specs.Buses.{Bus, Word, present, after, reply, told, uttered, returned, silent}
+use Rattle.terminal.specs.Buses.{Bus, present, after, reply, told, uttered, returned, silent}
 use Rattle.terminal.specs.Serves.{served, afters, answered, report-of}
-use Rattle.terminal.specs.Transcripts.{Line, lines, said, reaching, heard, voiced}
+use Rattle.terminal.specs.Transcripts.{Line, lines, said, heard, voiced}
 use Rattle.terminal.specs.Calls.{Ask, obeying, serving, executed, sheet, next, Shown, report, reports, closing, transcript}
-use Rattle.terminal.specs.Laws.{Same-fate, Own-affair, Fate, follow, As-alone, Regrouped, Came}
+use Rattle.terminal.specs.Laws.{Own-affair, Fate, follow, As-alone, Regrouped, Came}
 use Rattle.terminal.proofs.Affairs.{projected}
 
 -- ---- one call

@@ -1,9 +1,9 @@
 -- One command by its bytes, with room for the answer.
-use mathlib.Core.Path.{_≡_, refl, sym, ap, _∙_}
-use mathlib.Core.List.{List, [], _++_}
+use mathlib.Core.Path.{_≡_, sym, ap, _∙_}
+use mathlib.Core.List.{List, _++_}
 use Prim.Native.Nat.{ℕ, _≤_}
 use lib.Dec.{ltb}
-use lib.ListN.{length, drop}
+use lib.ListN.{drop}
 use Rattle.std.specs.declared.result.Result.{Result}
 use Rattle.std.proofs.shelf.Tests.{le-ltb, cond-false}
 use Rattle.fault.specs.declared.faults.Fault.{Fault}

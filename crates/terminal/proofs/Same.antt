@@ -1,12 +1,11 @@
 -- When two buses are the same, and the states of a list of scales.
-use mathlib.Core.Path.{_≡_, refl, sym, ap, _∙_}
+use mathlib.Core.Path.{_≡_, refl, ap}
 use mathlib.Core.Logic.{_≢_}
 use mathlib.Core.List.{List, [], _∷_}
 use Prim.Native.Nat.{ℕ, zero, suc, _<_}
 use native.Mathlib.Omega.{arith}
 use lib.ListN.{length, getD, set, replicate}
 use Rattle.scale.specs.declared.scale.Scale.{Scale}
-use Rattle.scale.specs.declared.state.State.{State}
 use Rattle.scale.specs.States.{fresh}
 use Rattle.terminal.specs.Buses.{Bus, state-at}
 

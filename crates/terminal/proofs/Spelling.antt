@@ -2,16 +2,15 @@
 use mathlib.Core.Path.{_≡_, refl, sym, ap, subst, _∙_}
 use mathlib.Core.List.{List, [], _∷_, _++_}
 use mathlib.Core.Bool.{Bool, true, false, cond}
-use Prim.Native.Nat.{ℕ, suc, _+_, _-_, _<_, _≤_}
+use Prim.Native.Nat.{ℕ, suc, _+_, _-_, _<_}
 use native.Mathlib.Omega.{arith}
-use lib.Dec.{eqb, ltb}
+use lib.Dec.{ltb}
 use lib.ListN.{length, drop}
 use Rattle.std.specs.shelf.Lists.{All, leading}
 use Rattle.std.proofs.shelf.Lists.{drop-drop, length-append}
 use Rattle.std.proofs.shelf.Tests.{ltb-true, ltb-false}
 use Rattle.command.specs.Cuts.{plain}
 use Rattle.terminal.specs.declared.answers.Stop.{Stop}
-use Rattle.terminal.specs.declared.answers.Stop.the-variants.{End, NoEnd, ShortBuffer}
 use Rattle.terminal.specs.declared.answers.Served.{Served}
 use Rattle.terminal.specs.Buses.{Bus, after, reply}
 use Rattle.terminal.specs.Serves.{headed, cut, taken, served, answered, spent, why, report-of, Spelled, Roomy, Stops, Serves}

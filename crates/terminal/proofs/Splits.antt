@@ -17,7 +17,7 @@ use Rattle.command.specs.Cuts.{plain, firstOf, cutAt, cutOf}
 use Rattle.terminal.specs.declared.answers.Stop.{Stop}
 use Rattle.terminal.specs.declared.answers.Stop.the-variants.{End, NoEnd, ShortBuffer}
 use Rattle.terminal.specs.Buses.{Bus}
-use Rattle.terminal.specs.Serves.{due-at, due, served, why}
+use Rattle.terminal.specs.Serves.{due, served, why}
 use Rattle.terminal.proofs.Turns.{served-short, served-none, why-open, why-short}
 
 -- the choice with the room's test taken

@@ -2,8 +2,8 @@
 use mathlib.Core.Path.{_≡_, refl, sym, ap, subst, _∙_}
 use mathlib.Core.Bool.{Bool, true, false, cond}
 use mathlib.Core.Logic.{_⊎_, ⊎-elim, _≢_}
-use mathlib.Core.List.{List, [], _∷_, _++_}
-use Prim.Native.Nat.{ℕ, zero, suc, _+_, _≤_, _<_}
+use mathlib.Core.List.{List, _++_}
+use Prim.Native.Nat.{ℕ, _+_, _≤_, _<_}
 use native.Mathlib.Omega.{arith}
 use lib.Dec.{eqb, ltb, leb}
 use lib.ListN.{length, set, drop}
@@ -15,7 +15,7 @@ use Rattle.fault.specs.declared.faults.Fault.{Fault}
 use Rattle.bank.specs.Ports.{Port}
 use Rattle.command.specs.declared.orders.Heard.{Heard}
 use Rattle.scale.specs.declared.modes.Mode.{Mode}
-use Rattle.scale.specs.declared.modes.Mode.the-variants.{Selected, Broadcast}
+use Rattle.scale.specs.declared.modes.Mode.the-variants.{Broadcast}
 use Rattle.scale.specs.declared.scale.Scale.{Scale}
 use Rattle.scale.specs.declared.state.State.{State}
 use Rattle.scale.specs.Hearing.{Outcome, hears, within, Brief}

@@ -2,7 +2,7 @@
 use mathlib.Core.List.{List, [], _∷_}
 use mathlib.Core.Bool.{Bool, cond}
 use Prim.Native.Nat.{ℕ, zero, suc}
-use lib.Dec.{eqb, ltb}
+use lib.Dec.{ltb}
 use lib.ListN.{length}
 use Rattle.std.specs.declared.option.Option.{Option}
 use Rattle.std.specs.declared.option.Option.the-variants.{Some, None}
@@ -14,7 +14,6 @@ use Rattle.bank.specs.Ports.{Port}
 use Rattle.command.specs.declared.orders.Heard.{Heard}
 use Rattle.command.specs.Readings.{reading}
 use Rattle.scale.specs.declared.modes.Mode.{Mode}
-use Rattle.scale.specs.declared.modes.Mode.the-variants.{Selected, Broadcast}
 use Rattle.scale.specs.declared.scale.Scale.{Scale}
 use Rattle.scale.specs.declared.state.State.{State}
 use Rattle.scale.specs.Hearing.{Outcome, hears}

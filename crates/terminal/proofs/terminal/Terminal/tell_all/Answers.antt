@@ -1,6 +1,5 @@
-use mathlib.Core.Path.{_≡_, sym, ap, subst, _∙_}
 use native.Mathlib.Omega.{arith}
-use Rattle.terminal.specs.Buses.{Bus, bus}
+use Rattle.terminal.specs.Buses.{bus}
 use Rattle.terminal.proofs.Telling.{swept-none, swept-next, swept-end}
 use Rattle.terminal.proofs.terminal.Terminal.tell_all.Needs as need
 
