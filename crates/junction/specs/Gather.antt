@@ -85,3 +85,15 @@ Light (Some x) = natAbs (x .load) ≤ 8 * most
 -- m, with the first reading taken from each port below n that feeds the port p
 abbrev pub drawn : (ℕ → ℕ) → (ℕ → Port) → ℕ → ℕ → ℕ → Port
 drawn f m p n k = cond (ltb k n && eqb (f k) p) (popped (m k)) (m k)
+
+-- the ports below after a reading is taken at the port p of a box: one is gone from each port that feeds p, unless p has no
+-- gauge, or a port that feeds it has a gauge and no reading; then no port below is touched
+abbrev pub unless-dry : Option ℕ → (ℕ → Port) → (ℕ → Port) → ℕ → Port
+unless-dry (Some q) m k = m
+unless-dry None m k = k
+
+abbrev pub left-below : Feeds → (ℕ → Port) → ℕ → ℕ → Port
+left-below fs m p = cond (eqb (boxed fs m p .gauges) 0) m (unless-dry (dry-from (fed fs) m p 0 32) m (drawn (fed fs) m p 32))
+
+abbrev pub below-after : Feeds → (ℕ → Port) → ℕ → ℕ → Port
+below-after fs m p = cond (leb p 31) (left-below fs m p) m

@@ -4,7 +4,7 @@ ghost use Prim.Native.Nat.{_<_};
 ghost use lib.ListN.{length};
 ghost use Rattle.bank.specs.Ports.{first-at, rest-at};
 ghost use Rattle.junction.specs.Feeding.{own};
-ghost use Rattle.junction.specs.Gather.{boxed};
+ghost use Rattle.junction.specs.Gather.{boxed, left-below, below-after};
 ghost use Rattle.junction.specs.Limits.{boxed-sound};
 ghost use Rattle.junction.specs.Joins.{joining, rejoined};
 use crate::feeds::Feeds;
@@ -80,6 +80,7 @@ impl<B: GaugeBank> JunctionBox<B> {
         requires { ⌜ port < 32 ⌝ }
         ensures answer { λ r. ⌜ r ≡ first-at (boxed (now (self .entry) .feeds) (shows (now (self .entry) .below))) port ⌝ }
         ensures after { λ _. ⌜ boxed (now (self .exit) .feeds) (shows (now (self .exit) .below)) ≡ rest-at (boxed (now (self .entry) .feeds) (shows (now (self .entry) .below))) port ⌝ }
+        ensures below { λ _. ⌜ shows (now (self .exit) .below) ≡ left-below (now (self .entry) .feeds) (shows (now (self .entry) .below)) port ⌝ }
     {
         let empty = Cause::TooFewReadings.at(port as usize);
         if self.gauge_count(port) == 0 {
@@ -107,7 +108,11 @@ pub impl<B: GaugeBank> GaugeBank for JunctionBox<B> as BoxBank {
         Ok(self.waiting_count(port))
     }
 
-    fn take(&mut self, port: u8) -> Result<Reading, Fault> {
+    fn take(&mut self, port: u8) -> Result<Reading, Fault>
+        ensures answer { λ r. ⌜ r ≡ first-at (boxed (now (self .entry) .feeds) (B·GaugeBank .shows (now (self .entry) .below))) port ⌝ }
+        ensures after { λ _. ⌜ boxed (now (self .exit) .feeds) (B·GaugeBank .shows (now (self .exit) .below)) ≡ rest-at (boxed (now (self .entry) .feeds) (B·GaugeBank .shows (now (self .entry) .below))) port ⌝ }
+        ensures below { λ _. ⌜ B·GaugeBank .shows (now (self .exit) .below) ≡ below-after (now (self .entry) .feeds) (B·GaugeBank .shows (now (self .entry) .below)) port ⌝ }
+    {
         checked_port(port)?;
         self.take_joined(port)
     }

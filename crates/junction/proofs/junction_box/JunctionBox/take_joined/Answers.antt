@@ -1,6 +1,7 @@
 use mathlib.Core.Path.{sym, _∙_}
 use native.Mathlib.Omega.{arith}
 use Rattle.bank.proofs.Empty.{empty-rest}
+use Rattle.std.proofs.shelf.Tests.{eq-eqb, ne-eqb}
 use Rattle.junction.specs.Gather.{boxed}
 use Rattle.junction.proofs.Taking.{bare-waits, dry-waits, counted-few, refused-first, drawn-first, box-drawn}
 use Rattle.junction.proofs.junction_box.JunctionBox.take_joined.Needs as need
@@ -14,6 +15,7 @@ returns-then-gauge-count-eq0 g c =
     record {
       answer = refused-first (s .feeds) m p (c .pre) _ (c .at-empty .ensures) z;
       after = empty-rest (boxed (s .feeds) m) p z;
+      below = let b = eq-eqb (boxed (s .feeds) m p .gauges) 0 (sym (c .gauge-count .ensures) ∙ c .if-gauge-count-eq0 .taken) in rw b;
     }
 
 pub returns-in-Some : need.returns-in-Some
@@ -25,6 +27,7 @@ returns-in-Some g c =
     record {
       answer = refused-first (s .feeds) m p (c .pre) _ (c .at-empty .ensures) z;
       after = empty-rest (boxed (s .feeds) m) p z;
+      below = let b = ne-eqb (boxed (s .feeds) m p .gauges) 0 (λ d. c .if-gauge-count-eq0 .left (c .gauge-count .ensures ∙ d)) in let d = sym (c .dry-port .ensures) ∙ c .in-Some .is in rw (b, d);
     }
 
 pub returns-in-None : need.returns-in-None
@@ -36,4 +39,5 @@ returns-in-None g c =
     record {
       answer = c .ok-or .ensures .value ∙ drawn-first (s .feeds) m p (c .pre) _ (c .at-empty .ensures) _ few (c .draw .ensures .answer);
       after = box-drawn (s .feeds) m _ p (omega (arith, c .pre)) (c .draw .ensures .after);
+      below = let b = ne-eqb (boxed (s .feeds) m p .gauges) 0 (λ d. c .if-gauge-count-eq0 .left (c .gauge-count .ensures ∙ d)) in let d = sym (c .dry-port .ensures) ∙ c .in-None .is in rw (b, d) (c .draw .ensures .after);
     }
