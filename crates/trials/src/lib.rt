@@ -1,3 +1,3 @@
-// Examples of boxes over each kind of bank, and of a terminal over a recording.
+// Examples of boxes over each kind of bank.
 #[cfg(test)]
 mod boxes;
