@@ -1,0 +1,5 @@
+pub mod Beneath
+pub mod Stages
+pub mod Order
+pub mod Words
+pub mod Escapes
