@@ -18,11 +18,11 @@ returns c =
     let d = c.dial-dial.result.digits in
     let fits : SFits w32 d = search rules in
     let back : to_z w32 (of_z w32 d) ≡ d = to_z-of_z w32 d fits in
-    let here = ranged_ok p (Ok p) c.in-ok-place.place c.in-ok-place.ensures in
-    let found = ranged_ok p (Ok (f p)) (option_map thousandths_of c.in-ok-factor.field-0) c.in-ok-factor.ensures in
+    let here = ranged_ok p (Ok p) c.in_ok-place.place c.in_ok-place.ensures in
+    let found = ranged_ok p (Ok (f p)) (option_map thousandths_of c.in_ok-factor.field-0) c.in_ok-factor.ensures in
     let some : f p ≡ Some x = let a = ap (option_map thousandths_of) c.in-Some.is in let b = found.1 in cc in
-    let place : c.in-ok-place.place ≡ p = let b = here.1 in cc in
-    let was : t c.in-ok-place.place ≡ t p = ap t place in
+    let place : c.in_ok-place.place ≡ p = let b = here.1 in cc in
+    let was : t c.in_ok-place.place ≡ t p = ap t place in
     let eD : d ≡ (t p).digits = ap (λ (u : Setting). u.digits) (c.dial-dial.ensures ∙ was) in
     let eN : c.dial-dial.result.conversions ≡ (t p).conversions = ap (λ (u : Setting). u.conversions) (c.dial-dial.ensures ∙ was) in
     let eT : setting_at c.turn.new.self.dials ≡ set_at t p (spent (t p)) = c.turn.ensures.settings ∙ (λ i. set_at t (place i) ((c.converted.ensures ∙ ap spent (c.dial-dial.ensures ∙ was)) i)) in
