@@ -48,7 +48,7 @@ fn is_dry(counted: Counts) -> bool
 // How many gauges the port q below brings to a port.
 fn part_gauges<B: GaugeBank>(below: &B, feeds: &Feeds, port: u8, q: u8) -> u8
     requires { q < 32 }
-    ensures { result ≡ (part (fed feeds.now) (shows below.now) port q).gauges }
+    ensures { result ≡ (part (fed feeds.now) (B.shows below.now) port q).gauges }
 {
     if feeds.above(q) != port {
         return 0;
@@ -62,7 +62,7 @@ fn part_gauges<B: GaugeBank>(below: &B, feeds: &Feeds, port: u8, q: u8) -> u8
 // How many gauges the port q below brings to a port, and how many readings wait there.
 fn part_counts<B: GaugeBank>(below: &B, feeds: &Feeds, port: u8, q: u8) -> Counts
     requires { q < 32 }
-    ensures { result ≡ counts (part (fed feeds.now) (shows below.now) port q) }
+    ensures { result ≡ counts (part (fed feeds.now) (B.shows below.now) port q) }
 {
     if feeds.above(q) != port {
         return UNCOUNTED;
@@ -75,7 +75,7 @@ fn part_counts<B: GaugeBank>(below: &B, feeds: &Feeds, port: u8, q: u8) -> Count
 
 // How many gauges feed a port, in sum.
 pub fn fed_gauges<B: GaugeBank>(below: &B, feeds: &Feeds, port: u8) -> u16
-    ensures { result ≡ (gather (fed feeds.now) (shows below.now) port 32).gauges }
+    ensures { result ≡ (gather (fed feeds.now) (B.shows below.now) port 32).gauges }
 {
     let mut sum: u16 = 0;
     for q in 0..PORTS {
@@ -86,7 +86,7 @@ pub fn fed_gauges<B: GaugeBank>(below: &B, feeds: &Feeds, port: u8) -> u16
 
 // How many gauges feed a port, in sum, and how many readings wait there.
 pub fn fed_counts<B: GaugeBank>(below: &B, feeds: &Feeds, port: u8) -> Counts
-    ensures { result ≡ counts (gather (fed feeds.now) (shows below.now) port 32) }
+    ensures { result ≡ counts (gather (fed feeds.now) (B.shows below.now) port 32) }
 {
     let mut sum = UNCOUNTED;
     for q in 0..PORTS {
@@ -97,7 +97,7 @@ pub fn fed_counts<B: GaugeBank>(below: &B, feeds: &Feeds, port: u8) -> Counts
 
 // The first port that feeds a port and has a gauge and no reading, if there is one.
 pub fn dry_port<B: GaugeBank>(below: &B, feeds: &Feeds, port: u8) -> Option<u8>
-    ensures { result ≡ dry_from (fed feeds.now) (shows below.now) port 0 32 }
+    ensures { result ≡ dry_from (fed feeds.now) (B.shows below.now) port 0 32 }
 {
     let mut q = 0u8;
     'search: loop {
@@ -148,8 +148,8 @@ fn merge(sum: Drawn, one: Drawn) -> Drawn
 // Draws at the port q below, if that feeds a port.
 fn draw_part<B: GaugeBank>(below: &mut B, feeds: &Feeds, port: u8, q: u8) -> Drawn
     requires { q < 32 }
-    ensures answer { result ≡ drawing (part (fed feeds.now) (shows below.old) port q) }
-    ensures after { shows below.new ≡ (if nat_eq (fed feeds.now q) port then rest_at (shows below.old) q else shows below.old) }
+    ensures answer { result ≡ drawing (part (fed feeds.now) (B.shows below.old) port q) }
+    ensures after { B.shows below.new ≡ (if nat_eq (fed feeds.now q) port then rest_at (B.shows below.old) q else B.shows below.old) }
 {
     if feeds.above(q) != port {
         return UNDRAWN;
@@ -162,8 +162,8 @@ fn draw_part<B: GaugeBank>(below: &mut B, feeds: &Feeds, port: u8, q: u8) -> Dra
 
 // Draws at each port that feeds a port, and answers what they give as one.
 pub fn draw_fed<B: GaugeBank>(below: &mut B, feeds: &Feeds, port: u8) -> Drawn
-    ensures answer { result ≡ drawing (gather (fed feeds.now) (shows below.old) port 32) }
-    ensures after { shows below.new ≡ drawn (fed feeds.now) (shows below.old) port 32 }
+    ensures answer { result ≡ drawing (gather (fed feeds.now) (B.shows below.old) port 32) }
+    ensures after { B.shows below.new ≡ drawn (fed feeds.now) (B.shows below.old) port 32 }
 {
     let mut sum = UNDRAWN;
     for q in 0..PORTS {

@@ -34,8 +34,8 @@ impl<B: GaugeBank> JunctionBox<B> {
 
     // Makes a port below feed a port above. It refuses a port above 31, that below first, and a ninth gauge, naming the port above; a refusal alters nothing.
     pub fn join(&mut self, below: u8, above: u8) -> Result<(), Fault>
-        ensures answer { result ≡ joining (shows self.old.below) self.old.feeds below above }
-        ensures after { self.new ≡ record { below = self.old.below; feeds = rejoined (shows self.old.below) self.old.feeds below above } }
+        ensures answer { result ≡ joining (B.shows self.old.below) self.old.feeds below above }
+        ensures after { self.new ≡ record { below = self.old.below; feeds = rejoined (B.shows self.old.below) self.old.feeds below above } }
     {
         checked_port(below)?;
         let place = checked_port(above)?;
@@ -50,7 +50,7 @@ impl<B: GaugeBank> JunctionBox<B> {
 
     // How many gauges a port has: those that feed it, in sum.
     fn gauge_count(&self, port: u8) -> u8
-        ensures { result ≡ (boxed self.now.feeds (shows self.now.below) port).gauges }
+        ensures { result ≡ (boxed self.now.feeds (B.shows self.now.below) port).gauges }
     {
         let gauges = fed_gauges(&self.below, &self.feeds, port);
         if gauges > MOST { 0 } else { gauges as u8 }
@@ -58,7 +58,7 @@ impl<B: GaugeBank> JunctionBox<B> {
 
     // Both counts of a port: the gauges that feed it in sum, and as many readings as in the shortest of the ports that feed it.
     fn both_counts(&self, port: u8) -> Counts
-        ensures { result ≡ counts (boxed self.now.feeds (shows self.now.below) port) }
+        ensures { result ≡ counts (boxed self.now.feeds (B.shows self.now.below) port) }
     {
         let sum = fed_counts(&self.below, &self.feeds, port);
         if sum.gauges > MOST { UNCOUNTED } else { sum }
@@ -67,9 +67,9 @@ impl<B: GaugeBank> JunctionBox<B> {
     // Draws at each port that feeds this one, as one.
     fn draw_joined(&mut self, port: u8) -> Drawn
         requires { port < 32 }
-        ensures answer { result ≡ drawing (boxed self.old.feeds (shows self.old.below) port) }
-        ensures after { boxed self.new.feeds (shows self.new.below) ≡ rest_at (boxed self.old.feeds (shows self.old.below)) port }
-        ensures below { shows self.new.below ≡ drawn (fed self.old.feeds) (shows self.old.below) port 32 }
+        ensures answer { result ≡ drawing (boxed self.old.feeds (B.shows self.old.below) port) }
+        ensures after { boxed self.new.feeds (B.shows self.new.below) ≡ rest_at (boxed self.old.feeds (B.shows self.old.below)) port }
+        ensures below { B.shows self.new.below ≡ drawn (fed self.old.feeds) (B.shows self.old.below) port 32 }
         ensures feeds { self.new.feeds ≡ self.old.feeds }
     {
         let sum = draw_fed(&mut self.below, &self.feeds, port);
@@ -79,9 +79,9 @@ impl<B: GaugeBank> JunctionBox<B> {
     // Takes one reading of each port that feeds this one and has a gauge, as one reading; none where one of them has no reading.
     fn take_joined(&mut self, port: u8) -> Result<Reading, Fault>
         requires { port < 32 }
-        ensures answer { result ≡ first_at (boxed self.old.feeds (shows self.old.below)) port }
-        ensures after { boxed self.new.feeds (shows self.new.below) ≡ rest_at (boxed self.old.feeds (shows self.old.below)) port }
-        ensures below { shows self.new.below ≡ left_below self.old.feeds (shows self.old.below) port }
+        ensures answer { result ≡ first_at (boxed self.old.feeds (B.shows self.old.below)) port }
+        ensures after { boxed self.new.feeds (B.shows self.new.below) ≡ rest_at (boxed self.old.feeds (B.shows self.old.below)) port }
+        ensures below { B.shows self.new.below ≡ left_below self.old.feeds (B.shows self.old.below) port }
         ensures feeds { self.new.feeds ≡ self.old.feeds }
     {
         let empty = Cause::TooFewReadings.at(port as usize);

@@ -25,8 +25,8 @@ fn refusal_count(answer: Result<(), Fault>) -> usize
 
 // A new box on a bank, joined as the list says, one join after another; a refused one is passed over and counted.
 pub fn wired<B: GaugeBank>(bank: B, joins: &[Join]) -> WiredBox<B>
-    ensures value { result ≡ record { junction = record { below = bank; feeds = after_joins (shows bank) own joins.now }; refused = refusals (shows bank) own joins.now } }
-    ensures meaning { boxed result.junction.feeds (shows result.junction.below) ≡ pile (shows bank) (joins.now ∷ []) }
+    ensures value { result ≡ record { junction = record { below = bank; feeds = after_joins (B.shows bank) own joins.now }; refused = refusals (B.shows bank) own joins.now } }
+    ensures meaning { boxed result.junction.feeds (B.shows result.junction.below) ≡ pile (B.shows bank) (joins.now ∷ []) }
     ensures once { CountedOnce }
     ensures free { Free }
     ensures eight { Eight }

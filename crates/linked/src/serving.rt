@@ -9,8 +9,8 @@ use terminal::{Served, Terminal};
 
 // Serves a byte run on a new terminal over a bank.
 pub fn served<B: GaugeBank + Drop>(bank: B, run: &[u8], answers: &mut [u8]) -> Served
-    ensures value { result ≡ report_of (silent (shows bank)) run.now (obeyed (length answers.old) (silent (shows bank)) run.now) }
-    ensures buffer { answers.new ≡ answered (silent (shows bank)) (obeyed (length answers.old) (silent (shows bank)) run.now) ++ drop result.written answers.old }
+    ensures value { result ≡ report_of (silent (B.shows bank)) run.now (obeyed (length answers.old) (silent (B.shows bank)) run.now) }
+    ensures buffer { answers.new ≡ answered (silent (B.shows bank)) (obeyed (length answers.old) (silent (B.shows bank)) run.now) ++ drop result.written answers.old }
     ensures within { result.written ≤ length answers.old }
 {
     let mut terminal = Terminal::new(bank);

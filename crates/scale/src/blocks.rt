@@ -33,10 +33,10 @@ impl Settings {
         values: &mut [Measured],
     ) -> Result<(), Fault>
         requires small { Small self.now }
-        requires there { readings_for self.now (length values.old) ≤ length (shows bank.old address.number).waiting }
+        requires there { readings_for self.now (length values.old) ≤ length (B.shows bank.old address.number).waiting }
         ensures answer { result ≡ Ok tt }
-        ensures values { values.new ≡ weighings self.now (length values.old) (shows bank.old address.number).waiting }
-        ensures after { shows bank.new ≡ put_port (shows bank.old) address.number (dropped (readings_for self.now (length values.old)) (shows bank.old address.number)) }
+        ensures values { values.new ≡ weighings self.now (length values.old) (B.shows bank.old address.number).waiting }
+        ensures after { B.shows bank.new ≡ put_port (B.shows bank.old) address.number (dropped (readings_for self.now (length values.old)) (B.shows bank.old address.number)) }
     {
         for i in 0..values.len() {
             let measurement = measure(bank, address, self.averaging)?;
@@ -54,10 +54,10 @@ impl Settings {
         out: &mut [u8],
     ) -> Result<usize, Fault>
         requires small { Small self.now }
-        requires there { readings_for self.now (length values.old) ≤ length (shows bank.old address.number).waiting }
-        ensures answer { result ≡ Ok (length (granted out.old (format_block self.now.format self.now.nominal address.number (weighings self.now (length values.old) (shows bank.old address.number).waiting)))) }
-        ensures buffer { out.new ≡ written out.old (format_block self.now.format self.now.nominal address.number (weighings self.now (length values.old) (shows bank.old address.number).waiting)) }
-        ensures after { shows bank.new ≡ put_port (shows bank.old) address.number (dropped (readings_for self.now (length values.old)) (shows bank.old address.number)) }
+        requires there { readings_for self.now (length values.old) ≤ length (B.shows bank.old address.number).waiting }
+        ensures answer { result ≡ Ok (length (granted out.old (format_block self.now.format self.now.nominal address.number (weighings self.now (length values.old) (B.shows bank.old address.number).waiting)))) }
+        ensures buffer { out.new ≡ written out.old (format_block self.now.format self.now.nominal address.number (weighings self.now (length values.old) (B.shows bank.old address.number).waiting)) }
+        ensures after { B.shows bank.new ≡ put_port (B.shows bank.old) address.number (dropped (readings_for self.now (length values.old)) (B.shows bank.old address.number)) }
     {
         self.weigh_all(bank, address, values)?;
         Ok(self.format.write(values, address.number, self.nominal, out))
@@ -73,9 +73,9 @@ impl Settings {
     ) -> Result<usize, Fault>
         requires small { Small self.now }
         requires few { count ≤ 64 }
-        ensures answer { result ≡ mapped_ok (λ bytes. length (granted out.old bytes)) (blocks address.number count self.now (shows bank.old address.number)) }
-        ensures buffer { out.new ≡ written_by out.old (blocks address.number count self.now (shows bank.old address.number)) }
-        ensures after { shows bank.new ≡ put_port (shows bank.old) address.number (block_port count self.now (shows bank.old address.number)) }
+        ensures answer { result ≡ mapped_ok (λ bytes. length (granted out.old bytes)) (blocks address.number count self.now (B.shows bank.old address.number)) }
+        ensures buffer { out.new ≡ written_by out.old (blocks address.number count self.now (B.shows bank.old address.number)) }
+        ensures after { B.shows bank.new ≡ put_port (B.shows bank.old) address.number (block_port count self.now (B.shows bank.old address.number)) }
     {
         enough(
             bank,
@@ -98,9 +98,9 @@ impl State {
         address: Address,
     ) -> Result<usize, Fault>
         requires { Bounded self.old }
-        ensures answer { result ≡ mapped_ok length (refused_or (measures address.number self.old.force.averaging (shows bank.old address.number))) }
-        ensures state { self.new ≡ holding self.old (measures address.number self.old.force.averaging (shows bank.old address.number)) }
-        ensures ports { shows bank.new ≡ put_port (shows bank.old) address.number (measured_port self.old.force.averaging (shows bank.old address.number)) }
+        ensures answer { result ≡ mapped_ok length (refused_or (measures address.number self.old.force.averaging (B.shows bank.old address.number))) }
+        ensures state { self.new ≡ holding self.old (measures address.number self.old.force.averaging (B.shows bank.old address.number)) }
+        ensures ports { B.shows bank.new ≡ put_port (B.shows bank.old) address.number (measured_port self.old.force.averaging (B.shows bank.old address.number)) }
         ensures bounded { Bounded self.new }
     {
         let measurement = measure(bank, address, self.force.averaging)?;

@@ -35,8 +35,8 @@ fn given_load<B: GaugeBank>(
     averaging: Averaging,
     order: Order,
 ) -> Result<i64, Fault>
-    ensures answer { result ≡ load_given address.number averaging order.argument order.place (shows bank.old address.number) }
-    ensures after { shows bank.new ≡ put_port (shows bank.old) address.number (given_port averaging order.argument (shows bank.old address.number)) }
+    ensures answer { result ≡ load_given address.number averaging order.argument order.place (B.shows bank.old address.number) }
+    ensures after { B.shows bank.new ≡ put_port (B.shows bank.old) address.number (given_port averaging order.argument (B.shows bank.old address.number)) }
     ensures bound { IfOk result (λ z. unsigned_abs z ≤ 2 ^ 45) }
 {
     match order.argument {
@@ -55,9 +55,9 @@ impl State {
         order: Order,
     ) -> Result<Answer, Fault>
         requires { Bounded self.old }
-        ensures answer { result ≡ (dead_loads address.number order self.old (shows bank.old address.number)).reply }
-        ensures state { self.new ≡ (dead_loads address.number order self.old (shows bank.old address.number)).state }
-        ensures ports { shows bank.new ≡ put_port (shows bank.old) address.number (dead_loads address.number order self.old (shows bank.old address.number)).port }
+        ensures answer { result ≡ (dead_loads address.number order self.old (B.shows bank.old address.number)).reply }
+        ensures state { self.new ≡ (dead_loads address.number order self.old (B.shows bank.old address.number)).state }
+        ensures ports { B.shows bank.new ≡ put_port (B.shows bank.old) address.number (dead_loads address.number order self.old (B.shows bank.old address.number)).port }
         ensures bounded { Bounded self.new }
     {
         if self.force.nominal > 0 {
@@ -76,9 +76,9 @@ impl State {
         order: Order,
     ) -> Result<Answer, Fault>
         requires { Bounded self.old }
-        ensures answer { result ≡ (full_loads address.number order self.old (shows bank.old address.number)).reply }
-        ensures state { self.new ≡ (full_loads address.number order self.old (shows bank.old address.number)).state }
-        ensures ports { shows bank.new ≡ put_port (shows bank.old) address.number (full_loads address.number order self.old (shows bank.old address.number)).port }
+        ensures answer { result ≡ (full_loads address.number order self.old (B.shows bank.old address.number)).reply }
+        ensures state { self.new ≡ (full_loads address.number order self.old (B.shows bank.old address.number)).state }
+        ensures ports { B.shows bank.new ≡ put_port (B.shows bank.old) address.number (full_loads address.number order self.old (B.shows bank.old address.number)).port }
         ensures bounded { Bounded self.new }
     {
         let place = address.number as usize;
@@ -114,9 +114,9 @@ impl State {
         address: Address,
     ) -> Result<Answer, Fault>
         requires { Bounded self.old }
-        ensures answer { result ≡ (tares address.number self.old (shows bank.old address.number)).reply }
-        ensures state { self.new ≡ (tares address.number self.old (shows bank.old address.number)).state }
-        ensures ports { shows bank.new ≡ put_port (shows bank.old) address.number (tares address.number self.old (shows bank.old address.number)).port }
+        ensures answer { result ≡ (tares address.number self.old (B.shows bank.old address.number)).reply }
+        ensures state { self.new ≡ (tares address.number self.old (B.shows bank.old address.number)).state }
+        ensures ports { B.shows bank.new ≡ put_port (B.shows bank.old) address.number (tares address.number self.old (B.shows bank.old address.number)).port }
         ensures bounded { Bounded self.new }
     {
         let measurement = measure(bank, address, self.force.averaging)?;

@@ -109,11 +109,11 @@ impl State {
         out: &mut [u8],
     ) -> Hearing
         requires { Bounded self.old }
-        ensures state { self.new ≡ (ordered mode address.number order self.old (shows bank.old address.number)).state }
-        ensures ports { shows bank.new ≡ put_port (shows bank.old) address.number (ordered mode address.number order self.old (shows bank.old address.number)).port }
-        ensures count { result.written ≡ length (granted out.old (ordered mode address.number order self.old (shows bank.old address.number)).says) }
-        ensures refusal { result.fault ≡ (ordered mode address.number order self.old (shows bank.old address.number)).fault }
-        ensures buffer { out.new ≡ written out.old (ordered mode address.number order self.old (shows bank.old address.number)).says }
+        ensures state { self.new ≡ (ordered mode address.number order self.old (B.shows bank.old address.number)).state }
+        ensures ports { B.shows bank.new ≡ put_port (B.shows bank.old) address.number (ordered mode address.number order self.old (B.shows bank.old address.number)).port }
+        ensures count { result.written ≡ length (granted out.old (ordered mode address.number order self.old (B.shows bank.old address.number)).says) }
+        ensures refusal { result.fault ≡ (ordered mode address.number order self.old (B.shows bank.old address.number)).fault }
+        ensures buffer { out.new ≡ written out.old (ordered mode address.number order self.old (B.shows bank.old address.number)).says }
         ensures bounded { Bounded self.new }
     {
         match self.obey(mode, address, order, bank, out) {
@@ -135,11 +135,11 @@ impl State {
         out: &mut [u8],
     ) -> Hearing
         requires { Bounded self.old }
-        ensures state { self.new ≡ (hears mode address.number heard self.old (shows bank.old address.number)).state }
-        ensures ports { shows bank.new ≡ put_port (shows bank.old) address.number (hears mode address.number heard self.old (shows bank.old address.number)).port }
-        ensures count { result.written ≡ length (granted out.old (hears mode address.number heard self.old (shows bank.old address.number)).says) }
-        ensures refusal { result.fault ≡ (hears mode address.number heard self.old (shows bank.old address.number)).fault }
-        ensures buffer { out.new ≡ written out.old (hears mode address.number heard self.old (shows bank.old address.number)).says }
+        ensures state { self.new ≡ (hears mode address.number heard self.old (B.shows bank.old address.number)).state }
+        ensures ports { B.shows bank.new ≡ put_port (B.shows bank.old) address.number (hears mode address.number heard self.old (B.shows bank.old address.number)).port }
+        ensures count { result.written ≡ length (granted out.old (hears mode address.number heard self.old (B.shows bank.old address.number)).says) }
+        ensures refusal { result.fault ≡ (hears mode address.number heard self.old (B.shows bank.old address.number)).fault }
+        ensures buffer { out.new ≡ written out.old (hears mode address.number heard self.old (B.shows bank.old address.number)).says }
         ensures bounded { Bounded self.new }
     {
         match heard {
@@ -182,11 +182,11 @@ impl Scale {
         bank: &mut B,
         out: &mut [u8],
     ) -> Hearing
-        ensures state { self.new.state ≡ (within (length out.old) mode address.number heard self.old.state (shows bank.old address.number)).state }
-        ensures ports { shows bank.new ≡ put_port (shows bank.old) address.number (within (length out.old) mode address.number heard self.old.state (shows bank.old address.number)).port }
-        ensures count { result.written ≡ length (within (length out.old) mode address.number heard self.old.state (shows bank.old address.number)).says }
-        ensures refusal { result.fault ≡ (within (length out.old) mode address.number heard self.old.state (shows bank.old address.number)).fault }
-        ensures buffer { out.new ≡ (within (length out.old) mode address.number heard self.old.state (shows bank.old address.number)).says ++ drop result.written out.old }
+        ensures state { self.new.state ≡ (within (length out.old) mode address.number heard self.old.state (B.shows bank.old address.number)).state }
+        ensures ports { B.shows bank.new ≡ put_port (B.shows bank.old) address.number (within (length out.old) mode address.number heard self.old.state (B.shows bank.old address.number)).port }
+        ensures count { result.written ≡ length (within (length out.old) mode address.number heard self.old.state (B.shows bank.old address.number)).says }
+        ensures refusal { result.fault ≡ (within (length out.old) mode address.number heard self.old.state (B.shows bank.old address.number)).fault }
+        ensures buffer { out.new ≡ (within (length out.old) mode address.number heard self.old.state (B.shows bank.old address.number)).says ++ drop result.written out.old }
         ensures brief { Brief }
         ensures silent { Silent }
         ensures laws { ScaleLaws }

@@ -50,7 +50,7 @@ impl Sum {
 
 // Refuses where fewer than so many readings wait at the scale's port.
 pub(crate) fn enough<B: GaugeBank>(bank: &B, address: Address, readings: u16) -> Result<(), Fault>
-    ensures { result ≡ enough_for address.number readings (shows bank.now address.number) }
+    ensures { result ≡ enough_for address.number readings (B.shows bank.now address.number) }
 {
     if bank.waiting(address.number)? < readings {
         return Err(Cause::TooFewReadings.at(address.number as usize));
@@ -61,9 +61,9 @@ pub(crate) fn enough<B: GaugeBank>(bank: &B, address: Address, readings: u16) ->
 // Takes so many readings and adds them.
 fn total<B: GaugeBank>(bank: &mut B, address: Address, readings: u8) -> Result<Sum, Fault>
     requires few { readings ≤ 16 }
-    requires there { readings ≤ length (shows bank.old address.number).waiting }
-    ensures answer { result ≡ Ok (sums readings (shows bank.old address.number).waiting) }
-    ensures after { shows bank.new ≡ put_port (shows bank.old) address.number (dropped readings (shows bank.old address.number)) }
+    requires there { readings ≤ length (B.shows bank.old address.number).waiting }
+    ensures answer { result ≡ Ok (sums readings (B.shows bank.old address.number).waiting) }
+    ensures after { B.shows bank.new ≡ put_port (B.shows bank.old) address.number (dropped readings (B.shows bank.old address.number)) }
     ensures bound { IfOk result (λ s. unsigned_abs s.load ≤ 128 * most) }
 {
     let mut sum = Sum {
@@ -83,8 +83,8 @@ pub(crate) fn measure<B: GaugeBank>(
     address: Address,
     averaging: Averaging,
 ) -> Result<Measurement, Fault>
-    ensures answer { result ≡ measures address.number averaging (shows bank.old address.number) }
-    ensures after { shows bank.new ≡ put_port (shows bank.old) address.number (measured_port averaging (shows bank.old address.number)) }
+    ensures answer { result ≡ measures address.number averaging (B.shows bank.old address.number) }
+    ensures after { B.shows bank.new ≡ put_port (B.shows bank.old) address.number (measured_port averaging (B.shows bank.old address.number)) }
     ensures bound { IfOk result (λ m. unsigned_abs m.load ≤ 2 ^ 43) }
 {
     let readings = averaging.readings();

@@ -85,10 +85,10 @@ impl State {
         out: &mut [u8],
     ) -> Result<usize, Fault>
         requires { Bounded self.old }
-        ensures answer { result ≡ mapped_ok (λ bytes. length (granted out.old bytes)) (weighs mode address.number self.old (shows bank.old address.number) (block_size order.argument order.place)).reply }
-        ensures state { self.new ≡ (weighs mode address.number self.old (shows bank.old address.number) (block_size order.argument order.place)).state }
-        ensures ports { shows bank.new ≡ put_port (shows bank.old) address.number (weighs mode address.number self.old (shows bank.old address.number) (block_size order.argument order.place)).port }
-        ensures buffer { out.new ≡ written_by out.old (weighs mode address.number self.old (shows bank.old address.number) (block_size order.argument order.place)).reply }
+        ensures answer { result ≡ mapped_ok (λ bytes. length (granted out.old bytes)) (weighs mode address.number self.old (B.shows bank.old address.number) (block_size order.argument order.place)).reply }
+        ensures state { self.new ≡ (weighs mode address.number self.old (B.shows bank.old address.number) (block_size order.argument order.place)).state }
+        ensures ports { B.shows bank.new ≡ put_port (B.shows bank.old) address.number (weighs mode address.number self.old (B.shows bank.old address.number) (block_size order.argument order.place)).port }
+        ensures buffer { out.new ≡ written_by out.old (weighs mode address.number self.old (B.shows bank.old address.number) (block_size order.argument order.place)).reply }
         ensures bounded { Bounded self.new }
     {
         let count = block_size_of(order)?;
@@ -108,10 +108,10 @@ impl State {
         out: &mut [u8],
     ) -> Result<usize, Fault>
         requires { Bounded self.old }
-        ensures answer { result ≡ mapped_ok (λ bytes. length (granted out.old bytes)) (by_task (task_of order.form order.name) mode address.number order self.old (shows bank.old address.number)).reply }
-        ensures state { self.new ≡ (by_task (task_of order.form order.name) mode address.number order self.old (shows bank.old address.number)).state }
-        ensures ports { shows bank.new ≡ put_port (shows bank.old) address.number (by_task (task_of order.form order.name) mode address.number order self.old (shows bank.old address.number)).port }
-        ensures buffer { out.new ≡ written_by out.old (by_task (task_of order.form order.name) mode address.number order self.old (shows bank.old address.number)).reply }
+        ensures answer { result ≡ mapped_ok (λ bytes. length (granted out.old bytes)) (by_task (task_of order.form order.name) mode address.number order self.old (B.shows bank.old address.number)).reply }
+        ensures state { self.new ≡ (by_task (task_of order.form order.name) mode address.number order self.old (B.shows bank.old address.number)).state }
+        ensures ports { B.shows bank.new ≡ put_port (B.shows bank.old) address.number (by_task (task_of order.form order.name) mode address.number order self.old (B.shows bank.old address.number)).port }
+        ensures buffer { out.new ≡ written_by out.old (by_task (task_of order.form order.name) mode address.number order self.old (B.shows bank.old address.number)).reply }
         ensures bounded { Bounded self.new }
     {
         match asked_task(order.form, order.name) {
@@ -133,10 +133,10 @@ impl State {
         out: &mut [u8],
     ) -> Result<usize, Fault>
         requires { Bounded self.old }
-        ensures answer { result ≡ mapped_ok (λ bytes. length (granted out.old bytes)) (obeys mode address.number order self.old (shows bank.old address.number)).reply }
-        ensures state { self.new ≡ (obeys mode address.number order self.old (shows bank.old address.number)).state }
-        ensures ports { shows bank.new ≡ put_port (shows bank.old) address.number (obeys mode address.number order self.old (shows bank.old address.number)).port }
-        ensures buffer { out.new ≡ written_by out.old (obeys mode address.number order self.old (shows bank.old address.number)).reply }
+        ensures answer { result ≡ mapped_ok (λ bytes. length (granted out.old bytes)) (obeys mode address.number order self.old (B.shows bank.old address.number)).reply }
+        ensures state { self.new ≡ (obeys mode address.number order self.old (B.shows bank.old address.number)).state }
+        ensures ports { B.shows bank.new ≡ put_port (B.shows bank.old) address.number (obeys mode address.number order self.old (B.shows bank.old address.number)).port }
+        ensures buffer { out.new ≡ written_by out.old (obeys mode address.number order self.old (B.shows bank.old address.number)).reply }
         ensures bounded { Bounded self.new }
     {
         let order = self.admit(mode, address, order)?;

@@ -40,7 +40,7 @@ fn seat(address: Address) -> usize
 impl<B: GaugeBank> Terminal<B> {
     // A terminal over a bank, with 32 new scales; nobody listens.
     pub fn new(bank: B) -> Terminal<B>
-        ensures { bus shows result ≡ silent (shows bank) }
+        ensures { bus B.shows result ≡ silent (B.shows bank) }
     {
         Terminal {
             bank,
@@ -51,7 +51,7 @@ impl<B: GaugeBank> Terminal<B> {
 
     // Whether a scale is present: the port of its address has a gauge.
     fn is_present(&self, address: Address) -> bool
-        ensures { result ≡ present (shows self.now.bank address.number) }
+        ensures { result ≡ present (B.shows self.now.bank address.number) }
     {
         match self.bank.gauges(address.number) {
             Ok(gauges) => gauges > 0,
@@ -68,9 +68,9 @@ impl<B: GaugeBank> Terminal<B> {
         out: &mut [u8],
     ) -> Obeyed
         requires { 1088 ≤ length out.old }
-        ensures state { bus shows self.new ≡ hearing (λ x. (if nat_eq x address.number then lets mode (present (shows self.old.bank x)) else None)) (bus shows self.old) heard }
-        ensures value { result ≡ returned (word_of (meeting (lets mode (present (shows self.old.bank address.number))) (bus shows self.old) heard address.number)) }
-        ensures buffer { out.new ≡ (meeting (lets mode (present (shows self.old.bank address.number))) (bus shows self.old) heard address.number).says ++ drop result.written out.old }
+        ensures state { bus B.shows self.new ≡ hearing (λ x. (if nat_eq x address.number then lets mode (present (B.shows self.old.bank x)) else None)) (bus B.shows self.old) heard }
+        ensures value { result ≡ returned (word_of (meeting (lets mode (present (B.shows self.old.bank address.number))) (bus B.shows self.old) heard address.number)) }
+        ensures buffer { out.new ≡ (meeting (lets mode (present (B.shows self.old.bank address.number))) (bus B.shows self.old) heard address.number).says ++ drop result.written out.old }
         ensures within { result.written ≤ 1088 }
     {
         if !self.is_present(address) {
@@ -87,7 +87,7 @@ impl<B: GaugeBank> Terminal<B> {
     // The scale with this number hears a broadcast, if it is present.
     fn tell_number(&mut self, number: u8, heard: Result<Heard, Fault>, unsaid: &mut [u8])
         requires { (1088 ≤ length unsaid.old) × (number ≤ 31) }
-        ensures { bus shows self.new ≡ hearing (λ x. (if nat_eq x number then lets Broadcast (present (shows self.old.bank x)) else None)) (bus shows self.old) heard }
+        ensures { bus B.shows self.new ≡ hearing (λ x. (if nat_eq x number then lets Broadcast (present (B.shows self.old.bank x)) else None)) (bus B.shows self.old) heard }
     {
         match Address::new(number) {
             Some(address) => {
@@ -100,7 +100,7 @@ impl<B: GaugeBank> Terminal<B> {
     // Every scale that is present hears a broadcast; what one would say is written over.
     fn tell_all(&mut self, heard: Result<Heard, Fault>, unsaid: &mut [u8])
         requires { 1088 ≤ length unsaid.old }
-        ensures { bus shows self.new ≡ hearing (λ x. listens everyone x (present (shows self.old.bank x))) (bus shows self.old) heard }
+        ensures { bus B.shows self.new ≡ hearing (λ x. listens everyone x (present (B.shows self.old.bank x))) (bus B.shows self.old) heard }
     {
         for number in 0..SCALES {
             self.tell_number(number, heard, unsaid);
@@ -109,7 +109,7 @@ impl<B: GaugeBank> Terminal<B> {
 
     // A broadcast: all hear it, and nobody answers.
     fn broadcast(&mut self, heard: Result<Heard, Fault>) -> Obeyed
-        ensures state { bus shows self.new ≡ hearing (λ x. listens everyone x (present (shows self.old.bank x))) (bus shows self.old) heard }
+        ensures state { bus B.shows self.new ≡ hearing (λ x. listens everyone x (present (B.shows self.old.bank x))) (bus B.shows self.old) heard }
         ensures value { result ≡ returned silence }
     {
         let mut unsaid = [0u8; ROOM];
@@ -120,9 +120,9 @@ impl<B: GaugeBank> Terminal<B> {
     // Passes a command on to those who listen, and writes what the selected scale answers.
     fn pass_on(&mut self, heard: Result<Heard, Fault>, answer: &mut [u8]) -> Obeyed
         requires { 1088 ≤ length answer.old }
-        ensures state { bus shows self.new ≡ passed (bus shows self.old) heard }
-        ensures value { result ≡ returned (spoken (bus shows self.old) heard) }
-        ensures buffer { answer.new ≡ (spoken (bus shows self.old) heard).says ++ drop result.written answer.old }
+        ensures state { bus B.shows self.new ≡ passed (bus B.shows self.old) heard }
+        ensures value { result ≡ returned (spoken (bus B.shows self.old) heard) }
+        ensures buffer { answer.new ≡ (spoken (bus B.shows self.old) heard).says ++ drop result.written answer.old }
         ensures within { result.written ≤ 1088 }
     {
         match self.listening {
@@ -135,9 +135,9 @@ impl<B: GaugeBank> Terminal<B> {
     // One command as it was read: a select turns who listens first, and a blank command does nothing.
     fn heed(&mut self, heard: Result<Heard, Fault>, answer: &mut [u8]) -> Obeyed
         requires { 1088 ≤ length answer.old }
-        ensures state { bus shows self.new ≡ heeded (bus shows self.old) heard }
-        ensures value { result ≡ returned (worded (bus shows self.old) heard) }
-        ensures buffer { answer.new ≡ (worded (bus shows self.old) heard).says ++ drop result.written answer.old }
+        ensures state { bus B.shows self.new ≡ heeded (bus B.shows self.old) heard }
+        ensures value { result ≡ returned (worded (bus B.shows self.old) heard) }
+        ensures buffer { answer.new ≡ (worded (bus B.shows self.old) heard).says ++ drop result.written answer.old }
         ensures within { result.written ≤ 1088 }
     {
         self.listening = self.listening.after(heard);
@@ -149,9 +149,9 @@ impl<B: GaugeBank> Terminal<B> {
 
     // Obeys all its bytes as one command, and writes the answer to the front of `answer`. A buffer under 1,088 bytes is refused before anything else.
     pub fn obey(&mut self, command: &[u8], answer: &mut [u8]) -> Obeyed
-        ensures state { bus shows self.new ≡ told (length answer.old) (bus shows self.old) command.now }
-        ensures value { result ≡ returned (uttered (length answer.old) (bus shows self.old) command.now) }
-        ensures buffer { answer.new ≡ (uttered (length answer.old) (bus shows self.old) command.now).says ++ drop result.written answer.old }
+        ensures state { bus B.shows self.new ≡ told (length answer.old) (bus B.shows self.old) command.now }
+        ensures value { result ≡ returned (uttered (length answer.old) (bus B.shows self.old) command.now) }
+        ensures buffer { answer.new ≡ (uttered (length answer.old) (bus B.shows self.old) command.now).says ++ drop result.written answer.old }
         ensures within { result.written ≤ length answer.old }
     {
         if answer.len() < ROOM {

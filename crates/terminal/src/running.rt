@@ -17,7 +17,7 @@ impl<B: GaugeBank> Terminal<B> {
         command: &[u8],
         room: usize,
     ) -> Result<Reply, AllocError>
-        ensures { IfOk result (λ y. (bus shows self.new ≡ next (bus shows self.old) (obeying command.now room)) × (shown y ≡ report (bus shows self.old) (obeying command.now room))) }
+        ensures { IfOk result (λ y. (bus B.shows self.new ≡ next (bus B.shows self.old) (obeying command.now room)) × (shown y ≡ report (bus B.shows self.old) (obeying command.now room))) }
     {
         let mut bytes = vec![in heap; 0u8; room]?;
         let obeyed = self.obey(command, bytes.as_mut_slice());
@@ -30,7 +30,7 @@ impl<B: GaugeBank> Terminal<B> {
 
     // Serves a byte run with so much room.
     fn reply_to_run(&mut self, heap: Global, run: &[u8], room: usize) -> Result<Reply, AllocError>
-        ensures { IfOk result (λ y. (bus shows self.new ≡ next (bus shows self.old) (serving run.now room)) × (shown y ≡ report (bus shows self.old) (serving run.now room))) }
+        ensures { IfOk result (λ y. (bus B.shows self.new ≡ next (bus B.shows self.old) (serving run.now room)) × (shown y ≡ report (bus B.shows self.old) (serving run.now room))) }
     {
         let mut bytes = vec![in heap; 0u8; room]?;
         let served = self.serve(run, bytes.as_mut_slice());
@@ -43,7 +43,7 @@ impl<B: GaugeBank> Terminal<B> {
 
     // Makes one call, and replies what it returned and wrote.
     fn reply(&mut self, heap: Global, call: &Call<'_>) -> Result<Reply, AllocError>
-        ensures { IfOk result (λ y. (bus shows self.new ≡ next (bus shows self.old) (ask_of call.now)) × (shown y ≡ report (bus shows self.old) (ask_of call.now))) }
+        ensures { IfOk result (λ y. (bus B.shows self.new ≡ next (bus B.shows self.old) (ask_of call.now)) × (shown y ≡ report (bus B.shows self.old) (ask_of call.now))) }
     {
         match call {
             Call::Obey { bytes, room } => self.reply_to_command(heap, bytes, *room),
@@ -59,7 +59,7 @@ pub fn run<B: GaugeBank + Drop>(
     calls: &[Call<'_>],
 ) -> Result<Ran<B>, AllocError>
     ensures refusal { OnErr result (0 < length calls.now) }
-    ensures laws { IfOk result (λ v. Came (shows bank) (map ask_of calls.now) (bus shows v.terminal) (map shown v.replies.items)) }
+    ensures laws { IfOk result (λ v. Came (B.shows bank) (map ask_of calls.now) (bus B.shows v.terminal) (map shown v.replies.items)) }
 {
     let mut terminal = Terminal::new(bank);
     let mut replies = Vec::new(heap);

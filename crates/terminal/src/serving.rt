@@ -51,11 +51,11 @@ fn next_command(rest: &[u8], room: usize) -> Result<(&[u8], usize), Stop>
 impl<B: GaugeBank> Terminal<B> {
     // Obeys the commands of a byte run in order, and writes their answers one after another, until it stops at the run's end, or without an end character, or for want of room.
     pub fn serve(&mut self, run: &[u8], answers: &mut [u8]) -> Served
-        ensures state { bus shows self.new ≡ afters (bus shows self.old) (served (length answers.old) (bus shows self.old) run.now) }
-        ensures value { result ≡ report_of (bus shows self.old) run.now (served (length answers.old) (bus shows self.old) run.now) }
-        ensures buffer { answers.new ≡ answered (bus shows self.old) (served (length answers.old) (bus shows self.old) run.now) ++ drop result.written answers.old }
+        ensures state { bus B.shows self.new ≡ afters (bus B.shows self.old) (served (length answers.old) (bus B.shows self.old) run.now) }
+        ensures value { result ≡ report_of (bus B.shows self.old) run.now (served (length answers.old) (bus B.shows self.old) run.now) }
+        ensures buffer { answers.new ≡ answered (bus B.shows self.old) (served (length answers.old) (bus B.shows self.old) run.now) ++ drop result.written answers.old }
         ensures within { result.written ≤ length answers.old }
-        ensures law { Serves (length answers.old) (bus shows self.old) run.now (served (length answers.old) (bus shows self.old) run.now) result }
+        ensures law { Serves (length answers.old) (bus B.shows self.old) run.now (served (length answers.old) (bus B.shows self.old) run.now) result }
     {
         let mut come = Progress {
             used: 0,

@@ -18,7 +18,7 @@ merge-sum-requires g c =
     let p = c.args.port in
     let n = c.loop-q.q in
     let ok = g.B.GaugeBank.sound c.args.below.now in
-    let one = c.draw-part-one.ensures.answer ∙ ap drawing (part_drawn f m p _ n c.loop-q.invariant.1) in
+    let one = c.draw_part-one.ensures.answer ∙ ap drawing (part_drawn f m p _ n c.loop-q.invariant.1) in
     record {
       few = omega (arith, c.loop-q.invariant.2, ap (λ (d : Drawn). d.gauges) one, part_few f m p ok n);
       light = (light_sum f m p ok n c.loop-q-test.true _ c.loop-q.invariant.0 c.loop-q.invariant.2, light_part f m p ok n c.loop-q-test.true _ one);
@@ -31,8 +31,8 @@ loop-q-preserved g c =
     let p = c.args.port in
     let n = c.loop-q.q in
     let ok = g.B.GaugeBank.sound c.args.below.now in
-    let one = c.draw-part-one.ensures.answer ∙ ap drawing (part_drawn f m p _ n c.loop-q.invariant.1) in (
+    let one = c.draw_part-one.ensures.answer ∙ ap drawing (part_drawn f m p _ n c.loop-q.invariant.1) in (
       c.merge-sum.ensures ∙ drawing_next f m p ok n c.loop-q-test.true _ _ c.loop-q.invariant.0 one,
-      drawn_next f m p _ _ n c.loop-q-test.true c.loop-q.invariant.1 c.draw-part-one.ensures.after,
+      drawn_next f m p _ _ n c.loop-q-test.true c.loop-q.invariant.1 c.draw_part-one.ensures.after,
       omega (arith, c.loop-q.invariant.2, ap (λ (d : Drawn). d.gauges) c.merge-sum.ensures, ap (λ (d : Drawn). d.gauges) one, part_few f m p ok n),
     )

@@ -16,8 +16,8 @@ loop-q-preserved g c =
     let m = g.B.GaugeBank.shows c.args.below.now in
     let p = c.args.port in
     let n = c.loop-q.q in
-    let e = ap (λ (d : Counts). d.gauges) c.part-counts.ensures in
+    let e = ap (λ (d : Counts). d.gauges) c.part_counts.ensures in
     let s = ap (λ (d : Counts). d.gauges) c.joined-sum.ensures in (
-      c.joined-sum.ensures ∙ counts_next f m p n _ _ c.loop-q.invariant.0 c.part-counts.ensures,
+      c.joined-sum.ensures ∙ counts_next f m p n _ _ c.loop-q.invariant.0 c.part_counts.ensures,
       omega (arith, e, s, part_few f m p (g.B.GaugeBank.sound c.args.below.now) n),
     )

@@ -15,5 +15,5 @@ loop-q-preserved g c =
     let m = g.B.GaugeBank.shows c.args.below.now in
     let p = c.args.port in
     let n = c.loop-q.q in
-    let e = c.from-sum.ensures ∙ c.part-gauges.ensures in
+    let e = c.from-sum.ensures ∙ c.part_gauges.ensures in
     (gauges_next f m p n _ _ c.loop-q.invariant.0 e, omega (arith, e, part_few f m p (g.B.GaugeBank.sound c.args.below.now) n))

@@ -23,8 +23,8 @@ loop-join-preserved g c =
     let few = at_most_one c.join.result in (
       turn_below shows js i h below box next same after,
       turn_feeds shows js i h below box next same after _ c.loop-join.invariant.1,
-      turn_refusals shows js i h below box next same after _ c.loop-join.refused c.refusal-count-refused.result c.join.result c.join.ensures.answer c.refusal-count-refused.ensures c.loop-join.invariant.2,
-      omega (arith, few, c.refusal-count-refused.ensures),
+      turn_refusals shows js i h below box next same after _ c.loop-join.refused c.refusal_count-refused.result c.join.result c.join.ensures.answer c.refusal_count-refused.ensures c.loop-join.invariant.2,
+      omega (arith, few, c.refusal_count-refused.ensures),
     )
 
 pub returns : goal.returns

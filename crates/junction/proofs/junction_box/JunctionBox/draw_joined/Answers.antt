@@ -1,4 +1,4 @@
-use Rattle.std.proofs.Common.{sym, ap, ◌∙◌, arith}
+use Rattle.std.proofs.Common.{refl, sym, ap, ◌∙◌, arith}
 use Rattle.bank.specs.declared.counts.Drawn.{Drawn}
 use Rattle.bank.specs.Ports.{drawing}
 use Rattle.junction.proofs.Taking.{boxed_few, boxed_many, box_drawn}
@@ -9,11 +9,12 @@ returns-then-sum-gt-MOST g c =
     let s = c.args.self.now in
     let m = g.B.GaugeBank.shows s.below in
     let p = c.args.port in
-    let sum = ap (λ (d : Drawn). d.gauges) c.draw-fed-sum.ensures.answer in
+    let sum = ap (λ (d : Drawn). d.gauges) c.draw_fed-sum.ensures.answer in
     record {
       answer = sym (ap drawing (boxed_many s.feeds m p (omega (arith, sum, c.if-sum-gt-MOST.true))));
-      after = box_drawn s.feeds m _ p (omega (arith, c.requires)) c.draw-fed-sum.ensures.after;
-      below = c.draw-fed-sum.ensures.after;
+      after = box_drawn s.feeds m _ p (omega (arith, c.requires)) c.draw_fed-sum.ensures.after;
+      below = c.draw_fed-sum.ensures.after;
+      feeds = refl;
     }
 
 pub returns-else-sum-gt-MOST : goal.returns-else-sum-gt-MOST
@@ -21,9 +22,10 @@ returns-else-sum-gt-MOST g c =
     let s = c.args.self.now in
     let m = g.B.GaugeBank.shows s.below in
     let p = c.args.port in
-    let sum = ap (λ (d : Drawn). d.gauges) c.draw-fed-sum.ensures.answer in
+    let sum = ap (λ (d : Drawn). d.gauges) c.draw_fed-sum.ensures.answer in
     record {
-      answer = c.draw-fed-sum.ensures.answer ∙ sym (ap drawing (boxed_few s.feeds m p (omega (arith, sum, c.if-sum-gt-MOST.false))));
-      after = box_drawn s.feeds m _ p (omega (arith, c.requires)) c.draw-fed-sum.ensures.after;
-      below = c.draw-fed-sum.ensures.after;
+      answer = c.draw_fed-sum.ensures.answer ∙ sym (ap drawing (boxed_few s.feeds m p (omega (arith, sum, c.if-sum-gt-MOST.false))));
+      after = box_drawn s.feeds m _ p (omega (arith, c.requires)) c.draw_fed-sum.ensures.after;
+      below = c.draw_fed-sum.ensures.after;
+      feeds = refl;
     }

@@ -1,20 +1,21 @@
-use Rattle.std.proofs.Common.{sym, ◌∙◌}
+use Rattle.std.proofs.Common.{refl, sym, ◌∙◌}
 use Rattle.bank.proofs.Empty.{empty_rest}
 use Rattle.std.proofs.lemmas.Bool.{eq-eqb, ne_eqb}
 use Rattle.junction.specs.Gather.{boxed}
 use Rattle.junction.proofs.Taking.{bare_waits, dry_waits, refused_first, drawn_first}
 use Rattle.junction.proofs.junction_box.JunctionBox.take_joined.Goals as goal
 
-pub returns-then-gauge-count-eq0 : goal.returns-then-gauge-count-eq0
-returns-then-gauge-count-eq0 g c =
+pub returns-then-gauge_count-eq0 : goal.returns-then-gauge_count-eq0
+returns-then-gauge_count-eq0 g c =
     let s = c.args.self.now in
     let m = g.B.GaugeBank.shows s.below in
     let p = c.args.port in
-    let z = bare_waits s.feeds m p (g.B.GaugeBank.sound s.below) (sym c.gauge-count.ensures ∙ c.if-gauge-count-eq0.true) in
+    let z = bare_waits s.feeds m p (g.B.GaugeBank.sound s.below) (sym c.gauge_count.ensures ∙ c.if-gauge_count-eq0.true) in
     record {
       answer = refused_first s.feeds m p c.requires _ c.at-empty.ensures z;
       after = empty_rest (boxed s.feeds m) p z;
-      below = let b = eq-eqb (boxed s.feeds m p).gauges 0 (sym c.gauge-count.ensures ∙ c.if-gauge-count-eq0.true) in rw b;
+      below = let b = eq-eqb (boxed s.feeds m p).gauges 0 (sym c.gauge_count.ensures ∙ c.if-gauge_count-eq0.true) in rw b;
+      feeds = refl;
     }
 
 pub returns-in-Some : goal.returns-in-Some
@@ -22,11 +23,12 @@ returns-in-Some g c =
     let s = c.args.self.now in
     let m = g.B.GaugeBank.shows s.below in
     let p = c.args.port in
-    let z = dry_waits s.feeds m p _ (sym c.dry-port.ensures ∙ c.in-Some.is) in
+    let z = dry_waits s.feeds m p _ (sym c.dry_port.ensures ∙ c.in-Some.is) in
     record {
       answer = refused_first s.feeds m p c.requires _ c.at-empty.ensures z;
       after = empty_rest (boxed s.feeds m) p z;
-      below = let b = ne_eqb (boxed s.feeds m p).gauges 0 (λ d. c.if-gauge-count-eq0.false (c.gauge-count.ensures ∙ d)) in let d = sym c.dry-port.ensures ∙ c.in-Some.is in rw (b, d);
+      below = let b = ne_eqb (boxed s.feeds m p).gauges 0 (λ d. c.if-gauge_count-eq0.false (c.gauge_count.ensures ∙ d)) in let d = sym c.dry_port.ensures ∙ c.in-Some.is in rw (b, d);
+      feeds = refl;
     }
 
 pub returns-in-None : goal.returns-in-None
@@ -34,9 +36,10 @@ returns-in-None g c =
     let s = c.args.self.now in
     let m = g.B.GaugeBank.shows s.below in
     let p = c.args.port in
-    let d = c.draw-joined.ensures in
+    let d = c.draw_joined.ensures in
     record {
-      answer = c.ok-or.ensures.value ∙ drawn_first s.feeds m p c.requires _ c.at-empty.ensures _ d.answer;
+      answer = c.ok_or.ensures.value ∙ drawn_first s.feeds m p c.requires _ c.at-empty.ensures _ d.answer;
       after = d.after;
-      below = let b = ne_eqb (boxed s.feeds m p).gauges 0 (λ d. c.if-gauge-count-eq0.false (c.gauge-count.ensures ∙ d)) in let e = sym c.dry-port.ensures ∙ c.in-None.is in rw (b, e) d.below;
+      below = let b = ne_eqb (boxed s.feeds m p).gauges 0 (λ d. c.if-gauge_count-eq0.false (c.gauge_count.ensures ∙ d)) in let e = sym c.dry_port.ensures ∙ c.in-None.is in rw (b, e) d.below;
+      feeds = d.feeds;
     }
