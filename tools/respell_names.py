@@ -20,6 +20,8 @@ OTHERWISE = {"numeral-of": "numeral_is"}
 # names given by imports and `let`
 LOCAL = {"the-text": "TheText", "a-line": "ALine", "a-text": "a_text", "a-number": "a_number", "net-fits": "net_fits",
          "gross-fits": "gross_fits", "open-end": "open_end", "x-is": "x_is"}
+LOCAL.update((n, n[:-2] + n[-2:].replace("Of", "_of").replace("By", "_by")) for n in
+             "unsignedOf rangedBy quotedOf poweredOf pointedOf paddedOf neededOf missingOf fractionOf filledOf asksOf alnumOf allowedOf alikeOf".split())
 
 
 def files(root, *endings):

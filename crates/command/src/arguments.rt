@@ -1,7 +1,7 @@
 // Reads a parameter by the kind that the table gives.
 ghost use Rattle.std.specs.Prelude.{◌≡◌, true, ◌&&◌, ℤ, if◌then◌else◌, Some, None, FitsSigned, int_le};
 ghost use Rattle.std.specs.Int.{w32};
-ghost use Rattle.command.specs.Arguments.{among, admits, ranged as rangedBy, ranged_of, worded, missing as missingOf, given as given_of, argument_of};
+ghost use Rattle.command.specs.Arguments.{among, admits, ranged as ranged_by, ranged_of, worded, missing as missing_of, given as given_of, argument_of};
 ghost use Rattle.command.specs.Numbers.{number_of};
 ghost use Rattle.command.specs.Texts.{text_of};
 
@@ -49,7 +49,7 @@ pub(crate) fn admit(limits: Limits, n: i64) -> Option<i32>
 
 // A number within the limits.
 fn ranged(limits: Limits, n: i64) -> Result<Argument, Cause>
-    ensures value { result ≡ rangedBy limits n }
+    ensures value { result ≡ ranged_by limits n }
     ensures small { (m : ℤ) → admits limits m ≡ true → FitsSigned w32 m }
 {
     match admit(limits, n) {
@@ -80,7 +80,7 @@ fn textual(parameter: &[u8]) -> Result<Argument, Cause>
 
 // What a kind makes of no parameter.
 fn missing(kind: Kind) -> Result<Argument, Cause>
-    ensures { result ≡ missingOf kind }
+    ensures { result ≡ missing_of kind }
 {
     match kind {
         Kind::Nothing | Kind::OptionalNumber(_) => Ok(Argument::Absent),

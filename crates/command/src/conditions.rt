@@ -1,6 +1,6 @@
 // What the table asks of an order besides its reading: the password, and a lower limit in a broadcast.
 ghost use Rattle.std.specs.Prelude.{◌≡◌};
-ghost use Rattle.command.specs.Conditions.{zero_given, needed as neededOf, needs_password, above as above_of, broadcast_of};
+ghost use Rattle.command.specs.Conditions.{zero_given, needed as needed_of, needs_password, above as above_of, broadcast_of};
 
 use crate::orders::{Argument, Form, Order};
 use crate::table::{Need, row_of};
@@ -18,7 +18,7 @@ fn is_zero(argument: Argument) -> bool
 
 // Whether an entry with this argument needs the password.
 fn needed(need: Need, argument: Argument) -> bool
-    ensures { result ≡ neededOf need argument }
+    ensures { result ≡ needed_of need argument }
 {
     match need {
         Need::Never => false,

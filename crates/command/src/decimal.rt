@@ -4,7 +4,7 @@ ghost use Rattle.std.specs.Option.{option_map};
 ghost use Rattle.std.specs.Char.{is_ascii_digit};
 ghost use Rattle.std.specs.List.{prefix_len};
 ghost use Rattle.command.specs.Meanings.{ExactValue};
-ghost use Rattle.command.specs.Numbers.{more, front, back, short as short_of, power_of, powered as poweredOf, pointed as pointedOf, fraction as fractionOf, unsigned as unsignedOf, numeral_of, sign as sign_of, size as size_of, number_of, capped, clamped};
+ghost use Rattle.command.specs.Numbers.{more, front, back, short as short_of, power_of, powered as powered_of, pointed as pointed_of, fraction as fraction_of, unsigned as unsigned_of, numeral_of, sign as sign_of, size as size_of, number_of, capped, clamped};
 
 // A number has at most this many bytes.
 const LONGEST: usize = 10;
@@ -73,7 +73,7 @@ fn power(text: &[u8]) -> Option<u32>
 // What stands behind the digits: nothing, or e or E with a power of ten.
 fn powered(minus: bool, digits: u64, places: u32, text: &[u8]) -> Option<Numeral>
     requires { places ≤ 10 }
-    ensures value { result ≡ poweredOf minus digits places text.now }
+    ensures value { result ≡ powered_of minus digits places text.now }
     ensures few { IfSome result (λ n. n.places ≤ 10) }
 {
     match text {
@@ -100,7 +100,7 @@ fn powered(minus: bool, digits: u64, places: u32, text: &[u8]) -> Option<Numeral
 fn pointed(minus: bool, start: u64, text: &[u8]) -> Option<Numeral>
     requires short { length text.now ≤ 10 }
     requires bound { (start + 23) * 10 ^ length text.now ≤ 23 * 10 ^ 10 }
-    ensures value { result ≡ pointedOf minus start text.now }
+    ensures value { result ≡ pointed_of minus start text.now }
     ensures few { IfSome result (λ n. n.places ≤ 10) }
 {
     let (decimals, rest) = leading_digits(text);
@@ -115,7 +115,7 @@ fn pointed(minus: bool, start: u64, text: &[u8]) -> Option<Numeral>
 fn fraction(minus: bool, start: u64, text: &[u8]) -> Option<Numeral>
     requires short { length text.now ≤ 10 }
     requires bound { (start + 23) * 10 ^ length text.now ≤ 23 * 10 ^ 10 }
-    ensures value { result ≡ fractionOf minus start text.now }
+    ensures value { result ≡ fraction_of minus start text.now }
     ensures few { IfSome result (λ n. n.places ≤ 10) }
 {
     match text {
@@ -127,7 +127,7 @@ fn fraction(minus: bool, start: u64, text: &[u8]) -> Option<Numeral>
 // A number behind its sign: a digit is needed there.
 fn unsigned(minus: bool, text: &[u8]) -> Option<Numeral>
     requires { length text.now ≤ 10 }
-    ensures value { result ≡ unsignedOf minus text.now }
+    ensures value { result ≡ unsigned_of minus text.now }
     ensures few { IfSome result (λ n. n.places ≤ 10) }
 {
     let (first, rest) = leading_digits(text);

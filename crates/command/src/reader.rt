@@ -1,6 +1,6 @@
 // Reads one command, all its bytes.
 ghost use Rattle.std.specs.Prelude.{◌≡◌, ◌≤◌, length};
-ghost use Rattle.command.specs.Readings.{asks as asksOf, initials_of, form_of, rest_of, sense_of, filled as filledOf, order_of, select_of, allowed as allowedOf, checked, reading};
+ghost use Rattle.command.specs.Readings.{asks as asks_of, initials_of, form_of, rest_of, sense_of, filled as filled_of, order_of, select_of, allowed as allowed_of, checked, reading};
 ghost use Rattle.command.specs.Spellings.{ReadsAlike};
 ghost use Rattle.command.specs.Table.{WholeTable};
 
@@ -29,7 +29,7 @@ struct Parts<'a> {
 
 // Whether a question mark stands first.
 fn asks(bytes: &[u8]) -> bool
-    ensures { result ≡ asksOf bytes.now }
+    ensures { result ≡ asks_of bytes.now }
 {
     match bytes {
         [b'?', ..] => true,
@@ -78,7 +78,7 @@ fn filled(
     place: usize,
     argument: Result<Argument, Cause>,
 ) -> Result<Order, Fault>
-    ensures { result ≡ filledOf name form place argument }
+    ensures { result ≡ filled_of name form place argument }
 {
     match argument {
         Ok(argument) => Ok(Order {
@@ -119,7 +119,7 @@ fn select_in(bytes: &[u8]) -> Option<u8>
 
 // Reads a command of a lawful length: `flow` is the place of its first flow byte.
 fn allowed(command: &[u8], flow: Option<usize>) -> Result<Heard, Fault>
-    ensures { result ≡ allowedOf command.now flow }
+    ensures { result ≡ allowed_of command.now flow }
 {
     if let Some(place) = flow {
         return Err(Cause::UnknownCommand.at(place));

@@ -1,6 +1,6 @@
 // The constant table of commands: initials, parameter kind of each form, limits and password need.
 ghost use Rattle.std.specs.Prelude.{◌≡◌, ◌<◌, slice_index_or};
-ghost use Rattle.command.specs.Table.{rows as commands, row_of, place_of, alike as alikeOf, lookup, kind_of};
+ghost use Rattle.command.specs.Table.{rows as commands, row_of, place_of, alike as alike_of, lookup, kind_of};
 
 use crate::orders::{Form, Mnemonic};
 
@@ -179,7 +179,7 @@ fn table() -> &'static [Row; 15]
 
 // Whether `bytes` are three initials, in either case.
 fn alike(initials: [u8; 3], bytes: &[u8]) -> bool
-    ensures { result ≡ alikeOf initials bytes.now }
+    ensures { result ≡ alike_of initials bytes.now }
 {
     bytes.len() == 3
         && initials[0] == bytes[0].to_ascii_uppercase()

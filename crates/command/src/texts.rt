@@ -1,6 +1,6 @@
 // A text and its reader.
 ghost use Rattle.std.specs.Prelude.{◌≡◌, ◌≤◌, length, IfSome, Decides};
-ghost use Rattle.command.specs.Texts.{padded as paddedOf, alnum as alnumOf, letters_of, word_of, quoted as quotedOf, text_of, same_text, ExactText};
+ghost use Rattle.command.specs.Texts.{padded as padded_of, alnum as alnum_of, letters_of, word_of, quoted as quoted_of, text_of, same_text, ExactText};
 ghost use Rattle.std.specs.Str.{bytes_eq};
 
 // A text has at most this many letters and digits.
@@ -15,7 +15,7 @@ pub struct Text {
 
 // Whether `bytes` are nothing but letters and digits.
 fn alnum(bytes: &[u8]) -> bool
-    ensures { result ≡ alnumOf bytes.now }
+    ensures { result ≡ alnum_of bytes.now }
 {
     for b in bytes {
         if !b.is_ascii_alphanumeric() {
@@ -28,7 +28,7 @@ fn alnum(bytes: &[u8]) -> bool
 // The letters, then zeros.
 fn padded(letters: &[u8]) -> [u8; 7]
     requires { length letters.now ≤ 7 }
-    ensures { result ≡ paddedOf letters.now }
+    ensures { result ≡ padded_of letters.now }
 {
     let mut bytes = [0; 7];
     bytes[0..letters.len()].copy_from_slice(letters);
@@ -75,7 +75,7 @@ fn same_bytes(a: &[u8], b: &[u8]) -> bool
 
 // Whether `bytes` stand in double quotes.
 fn quoted(bytes: &[u8]) -> bool
-    ensures { result ≡ quotedOf bytes.now }
+    ensures { result ≡ quoted_of bytes.now }
 {
     match bytes {
         [b'"', .., b'"'] => true,
