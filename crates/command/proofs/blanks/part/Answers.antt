@@ -6,7 +6,7 @@ pub returns-else-n-bytes : goal.returns-else-n-bytes
 returns-else-n-bytes c =
     let t = c.args.bytes.now in
     record {
-      front = c.split-at-else-n-bytes.ensures.front ∙ take_all _ t (omega arith) ∙ sym (take_all c.args.n t (omega arith));
-      back = c.split-at-else-n-bytes.ensures.back ∙ drop_all _ t (omega arith) ∙ sym (drop_all c.args.n t (omega arith));
+      front = c.split_at-else-n-bytes.ensures.front ∙ take_all _ t (omega arith) ∙ sym (take_all c.args.n t (omega arith));
+      back = c.split_at-else-n-bytes.ensures.back ∙ drop_all _ t (omega arith) ∙ sym (drop_all c.args.n t (omega arith));
       within = omega arith;
     }

@@ -13,5 +13,5 @@ pub returns-in-Entry : goal.returns-in-Entry
 unfolding needs_password
 returns-in-Entry c =
     let o = c.args.order.now in
-    c.needed.ensures ∙ ap (λ r. needed r.password o.argument) c.row-of.ensures
+    c.needed.ensures ∙ ap (λ r. needed r.password o.argument) c.row_of.ensures
     ∙ ap (λ f. needs_by f (row_of o.name).password o.argument) (sym c.in-Entry.is)

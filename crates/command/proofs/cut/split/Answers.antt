@@ -6,5 +6,5 @@ use Rattle.command.proofs.cut.split.Goals as goal
 pub returns : goal.returns
 returns c =
     let bs = c.args.bytes.now in
-    let e = c.cut-at.ensures ∙ ap (cut_at bs) c.position.ensures.value in
+    let e = c.cut_at.ensures ∙ ap (cut_at bs) c.position.ensures.value in
     record { value = e; law = subst (Cuts bs) (sym e) (cuts bs) }

@@ -4,16 +4,16 @@ use Rattle.command.specs.Numbers.{more}
 use Rattle.command.proofs.Powers.{tenfold, tens_up}
 use Rattle.command.proofs.decimal.joined.Goals as goal
 
-pub overflow-mul-v : goal.overflow-mul-v
-overflow-mul-v c =
+pub overflow_mul-v : goal.overflow_mul-v
+overflow_mul-v c =
     let i = c.loop-b.b-index in
     let s = c.args.start + 23 in
     let p = tenfold s i in
     let h = tens_up s (i + 1) (length c.args.digits.now) (omega arith) in
     omega arith
 
-pub overflow-add-v : goal.overflow-add-v
-overflow-add-v c =
+pub overflow_add-v : goal.overflow_add-v
+overflow_add-v c =
     let i = c.loop-b.b-index in
     let s = c.args.start + 23 in
     let p = tenfold s i in

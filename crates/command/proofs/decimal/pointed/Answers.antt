@@ -4,5 +4,5 @@ use Rattle.command.proofs.decimal.pointed.Goals as goal
 
 pub joined-digits-requires : goal.joined-digits-requires
 joined-digits-requires c =
-    let h = tens_up (c.args.start + 23) (length c.leading-digits.result.0.now) (length c.args.text.now) (omega arith) in
+    let h = tens_up (c.args.start + 23) (length c.leading_digits.result.0.now) (length c.args.text.now) (omega arith) in
     omega arith

@@ -5,17 +5,17 @@ use Rattle.command.specs.Numbers.{capped}
 use Rattle.command.proofs.Sizes.{tens, size_up, size_down, cap_shift}
 use Rattle.command.proofs.decimal.whole.Goals as goal
 
-pub nonzero-rem-digits : goal.nonzero-rem-digits
-nonzero-rem-digits c = omega (arith, tens (c.args.places - c.args.exponent))
+pub nonzero_rem-digits : goal.nonzero_rem-digits
+nonzero_rem-digits c = omega (arith, tens (c.args.places - c.args.exponent))
 
-pub nonzero-div-digits : goal.nonzero-div-digits
-nonzero-div-digits c = omega (arith, tens (c.args.places - c.args.exponent))
+pub nonzero_div-digits : goal.nonzero_div-digits
+nonzero_div-digits c = omega (arith, tens (c.args.places - c.args.exponent))
 
 pub returns-then-places-exponent : goal.returns-then-places-exponent
 returns-then-places-exponent c =
     let m = c.args.digits in
     let k = c.args.exponent - c.args.places in
-    let shifted = c.saturating-mul.ensures ∙ ap (λ p. min (m * p) (2 ^ 64 - 1)) c.pow.ensures in
+    let shifted = c.saturating_mul.ensures ∙ ap (λ p. min (m * p) (2 ^ 64 - 1)) c.pow.ensures in
     let result = c.min.ensures ∙ ap (λ n. min n 1000000000000) shifted ∙ cap_shift m k c.min-shift.result c.min-shift.ensures in
     record { value = ap Some result ∙ sym (ap (option_map capped) (size_up m c.args.places c.args.exponent (omega arith))); bound = omega arith }
 

@@ -5,4 +5,4 @@ use Rattle.command.proofs.reader.read.Goals as goal
 
 pub returns : goal.returns
 unfolding reading
-returns c = record { value = c.heard-in.ensures; alike = reads_alike; table = whole_table }
+returns c = record { value = c.heard_in.ensures; alike = reads_alike; table = whole_table }

@@ -5,5 +5,5 @@ use Rattle.command.proofs.table.row_of.Goals as goal
 
 pub returns : goal.returns
 returns c =
-    let r = c.row-at.result in
-    c.row-at.ensures ∙ ap (λ n. get_or rows n r) c.place.ensures.value ∙ placed c.args.name r
+    let r = c.row_at.result in
+    c.row_at.ensures ∙ ap (λ n. get_or rows n r) c.place.ensures.value ∙ placed c.args.name r

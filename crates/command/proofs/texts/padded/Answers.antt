@@ -6,5 +6,5 @@ pub returns : goal.returns
 returns c =
     let s = c.args.letters.now in
     let none : length s - 0 ≡ length s = omega arith in
-    ap (λ t. t ++ drop (length s - 0) (replicate 7 0)) c.copy-from-slice.ensures.after
+    ap (λ t. t ++ drop (length s - 0) (replicate 7 0)) c.copy_from_slice.ensures.after
     ∙ ap (λ n. s ++ drop n (replicate 7 0)) none ∙ ap (λ t. s ++ t) (drop-replicate (length s) 7 0)

@@ -19,35 +19,35 @@ pub loop-m-init : goal.loop-m-init
 loop-m-init g c =
     block_none (bytes g c.args.nominal c.args.address c.args.end.now) (g.F.ValueFormat.wide + length c.args.end.now) (long g c.args.nominal c.args.address c.args.end.now) c.args.values.now c.args.out.now
 
-pub slice-bounds-put-ended-count : goal.slice-bounds-put-ended-count
-slice-bounds-put-ended-count g c =
+pub slice_bounds-put_ended-count : goal.slice_bounds-put_ended-count
+slice_bounds-put_ended-count g c =
     omega (arith, c.loop-m.invariant.size, room c.loop-m.m-index (length c.args.values.now) (g.F.ValueFormat.wide + length c.args.end.now) (length c.args.out.now) (omega arith) c.requires)
 
-pub slice-bounds-put-ended-start : goal.slice-bounds-put-ended-start
-slice-bounds-put-ended-start g c =
+pub slice_bounds-put_ended-start : goal.slice_bounds-put_ended-start
+slice_bounds-put_ended-start g c =
     let h : c.loop-m.n ≤ length c.loop-m.out =
     omega (arith, c.loop-m.invariant.size, room c.loop-m.m-index (length c.args.values.now) (g.F.ValueFormat.wide + length c.args.end.now) (length c.args.out.now) (omega arith) c.requires)
     in
     search rules
 
-pub put-ended-n-requires : goal.put-ended-n-requires
-put-ended-n-requires g c =
+pub put_ended-n-requires : goal.put_ended-n-requires
+put_ended-n-requires g c =
     simp (length-take, length-drop) (omega (arith, c.loop-m.invariant.size, room c.loop-m.m-index (length c.args.values.now) (g.F.ValueFormat.wide + length c.args.end.now) (length c.args.out.now) (omega arith) c.requires))
 
-pub overflow-add-n : goal.overflow-add-n
-overflow-add-n g c =
+pub overflow_add-n : goal.overflow_add-n
+overflow_add-n g c =
     let r = room c.loop-m.m-index (length c.args.values.now) (g.F.ValueFormat.wide + length c.args.end.now) (length c.args.out.now) (omega arith) c.requires in
     let s = c.loop-m.invariant.size in
-    let k = c.put-ended-n.ensures.count in
+    let k = c.put_ended-n.ensures.count in
     search rules
 
 pub loop-m-preserved : goal.loop-m-preserved
 loop-m-preserved g c =
     block_more (bytes g c.args.nominal c.args.address c.args.end.now) (g.F.ValueFormat.wide + length c.args.end.now) (long g c.args.nominal c.args.address c.args.end.now) c.args.values.now c.args.out.now
-    c.loop-m.m-index c.loop-m.n c.put-ended-n.result c.loop-m.out c.put-ended-n.new.out
+    c.loop-m.m-index c.loop-m.n c.put_ended-n.result c.loop-m.out c.put_ended-n.new.out
     (record { value = pos 0; status = 0 })
-    (omega arith) c.put-ended-n.ensures.count c.loop-m.invariant
-    c.put-ended-n.ensures.buffer
+    (omega arith) c.put_ended-n.ensures.count c.loop-m.invariant
+    c.put_ended-n.ensures.buffer
 
 pub returns : goal.returns
 returns g c =

@@ -10,5 +10,5 @@ returns g c =
     let m = c.args.measured in
     let value = value_bytes f.bounds f.bytes c.args.nominal c.args.address m in
     let long = g.met.F.ValueFormat.long c.args.address m.status (indicated f.bounds c.args.nominal m.value) in
-    let all = ended c.args.out.now value c.args.end.now c.write-value-n.new.out c.place.new.out c.write-value-n.result c.place.result f.wide long c.requires c.write-value-n.ensures.count c.write-value-n.ensures.buffer c.place.ensures.count c.place.ensures.buffer in
+    let all = ended c.args.out.now value c.args.end.now c.write_value-n.new.out c.place.new.out c.write_value-n.result c.place.result f.wide long c.requires c.write_value-n.ensures.count c.write_value-n.ensures.buffer c.place.ensures.count c.place.ensures.buffer in
     record { count = omega (arith, all.count, long); buffer = all.holds }

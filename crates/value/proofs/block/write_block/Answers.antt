@@ -26,7 +26,7 @@ returns-then-out-size g c =
     let vs = c.args.values.now in
     let ending = c.args.ending in
     let f = bytes g c.args.nominal c.args.address in
-    let size = worked-out vs c.width-of.result g.F.ValueFormat.wide c.size.result c.after-each-each.result.now c.after-all-last.result.now (each_end ending) (last_end ending) c.width-of.ensures c.after-each-each.ensures c.after-all-last.ensures c.size.ensures in
+    let size = worked-out vs c.width_of.result g.F.ValueFormat.wide c.size.result c.after_each-each.result.now c.after_all-last.result.now (each_end ending) (last_end ending) c.width_of.ensures c.after_each-each.ensures c.after_all-last.ensures c.size.ensures in
     let whole = length_block f g.F.ValueFormat.wide (long g c.args.nominal c.args.address) ending vs in
     let over : length before < length (block ending f vs) = omega (arith, c.if-out-size.true, size, whole) in
     let none = granted_none before (block ending f vs) over in
@@ -39,15 +39,15 @@ room g nominal address vs each last w size total p q r =
     let same = ap (λ k. length vs * (k + length each)) p in
     omega arith
 
-pub slice-bounds-place-count : goal.slice-bounds-place-count
-slice-bounds-place-count g c =
-    let fits = room g c.args.nominal c.args.address c.args.values.now c.after-each-each.result.now c.after-all-last.result.now c.width-of.result c.size.result (length c.args.out.now) c.width-of.ensures c.size.ensures c.if-out-size.false in
-    omega (arith, c.put-all-n.ensures.count, c.put-all-n.auto.out)
+pub slice_bounds-place-count : goal.slice_bounds-place-count
+slice_bounds-place-count g c =
+    let fits = room g c.args.nominal c.args.address c.args.values.now c.after_each-each.result.now c.after_all-last.result.now c.width_of.result c.size.result (length c.args.out.now) c.width_of.ensures c.size.ensures c.if-out-size.false in
+    omega (arith, c.put_all-n.ensures.count, c.put_all-n.auto.out)
 
-pub slice-bounds-place-start : goal.slice-bounds-place-start
-slice-bounds-place-start g c =
-    let fits = room g c.args.nominal c.args.address c.args.values.now c.after-each-each.result.now c.after-all-last.result.now c.width-of.result c.size.result (length c.args.out.now) c.width-of.ensures c.size.ensures c.if-out-size.false in
-    let h : c.put-all-n.result ≤ length c.put-all-n.new.out = omega (arith, c.put-all-n.ensures.count, c.put-all-n.auto.out) in
+pub slice_bounds-place-start : goal.slice_bounds-place-start
+slice_bounds-place-start g c =
+    let fits = room g c.args.nominal c.args.address c.args.values.now c.after_each-each.result.now c.after_all-last.result.now c.width_of.result c.size.result (length c.args.out.now) c.width_of.ensures c.size.ensures c.if-out-size.false in
+    let h : c.put_all-n.result ≤ length c.put_all-n.new.out = omega (arith, c.put_all-n.ensures.count, c.put_all-n.auto.out) in
     search rules
 
 pub returns : goal.returns
@@ -56,13 +56,13 @@ returns g c =
     let vs = c.args.values.now in
     let ending = c.args.ending in
     let f = bytes g c.args.nominal c.args.address in
-    let each = c.after-each-each.result.now in
-    let last = c.after-all-last.result.now in
+    let each = c.after_each-each.result.now in
+    let last = c.after_all-last.result.now in
     let front = flat_map (λ m. f m ++ each) vs in
-    let fits = room g c.args.nominal c.args.address vs each last c.width-of.result c.size.result (length before) c.width-of.ensures c.size.ensures c.if-out-size.false in
-    let all = more before front last c.put-all-n.new.out c.place.new.out c.put-all-n.result c.place.result c.put-all-n.ensures.buffer c.put-all-n.ensures.count fits c.place.ensures.count c.place.ensures.buffer in
-    let e = c.after-each-each.ensures in
-    let l = c.after-all-last.ensures in
+    let fits = room g c.args.nominal c.args.address vs each last c.width_of.result c.size.result (length before) c.width_of.ensures c.size.ensures c.if-out-size.false in
+    let all = more before front last c.put_all-n.new.out c.place.new.out c.put_all-n.result c.place.result c.put_all-n.ensures.buffer c.put_all-n.ensures.count fits c.place.ensures.count c.place.ensures.buffer in
+    let e = c.after_each-each.ensures in
+    let l = c.after_all-last.ensures in
     let same : front ++ last ≡ block ending f vs = (λ i. flat_map (λ m. f m ++ e i) vs ++ l i) in
     let given = granted_all before (block ending f vs) (omega (arith, ap length same, length-append front last)) in
     record {

@@ -14,6 +14,6 @@ returns c =
     let step = c.args.step in
     let n = c.ranges.num in
     let s = c.ranges.span in
-    let v : SFits w128 c.in-steps.result = record { sfits = c.in-steps.type-inv } in
-    let e : c.in-steps.result ≡ scaled num full span step = simp to_z-of_z at c.in-steps.ensures in
+    let v : SFits w128 c.in_steps.result = record { sfits = c.in_steps.type_inv } in
+    let e : c.in_steps.result ≡ scaled num full span step = simp to_z-of_z at c.in_steps.ensures in
     record { value = simp to_z-of_z e; close = λ h k. simp to_z-of_z (subst (Shown num full span step) (sym e) (shown_law num full span step h k)) }

@@ -7,21 +7,21 @@ use Rattle.value.proofs.Quotient.{rounded}
 use Rattle.value.proofs.Products.{digits_fit}
 use Rattle.value.proofs.scaling.whole_digits.Goals as goal
 
-pub overflow-cast-result : goal.overflow-cast-result
+pub overflow_cast-result : goal.overflow_cast-result
 unfolding in_digits
-overflow-cast-result c =
+overflow_cast-result c =
     let l = c.ranges.load in
-    let q : SFits w128 c.wide-digits.result = record { sfits = c.wide-digits.type-inv } in
-    let e : c.wide-digits.result ≡ in_digits c.args.load = simp to_z-of_z at c.wide-digits.ensures in
+    let q : SFits w128 c.wide_digits.result = record { sfits = c.wide_digits.type_inv } in
+    let e : c.wide_digits.result ≡ in_digits c.args.load = simp to_z-of_z at c.wide_digits.ensures in
     simp to_z-of_z (subst (SFits w64) (sym e) (digits_fit c.args.load l))
 
 pub returns : goal.returns
 unfolding in_digits
 returns c =
     let l = c.ranges.load in
-    let q : SFits w128 c.wide-digits.result = record { sfits = c.wide-digits.type-inv } in
-    let e : c.wide-digits.result ≡ in_digits c.args.load = simp to_z-of_z at c.wide-digits.ensures in
-    let q' : SFits w64 c.wide-digits.result = subst (SFits w64) (sym e) (digits_fit c.args.load l) in
+    let q : SFits w128 c.wide_digits.result = record { sfits = c.wide_digits.type_inv } in
+    let e : c.wide_digits.result ≡ in_digits c.args.load = simp to_z-of_z at c.wide_digits.ensures in
+    let q' : SFits w64 c.wide_digits.result = subst (SFits w64) (sym e) (digits_fit c.args.load l) in
     let some : pos 0 <ℤ pos 16000 = omega (arith, ints) in
     record {
       value = simp to_z-of_z e;

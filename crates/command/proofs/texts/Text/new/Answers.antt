@@ -7,7 +7,7 @@ use Rattle.command.proofs.texts.Text.new.Goals as goal
 pub returns : goal.returns
 returns c =
     let s = c.args.letters.now in
-    let some : 1 ≤ length s = omega (arith, eqb-false (length s) 0 (sym c.if-is-empty.ensures)) in
+    let some : 1 ≤ length s = omega (arith, eqb-false (length s) 0 (sym c.if-is_empty.ensures)) in
     let few = le-leb (length s) 7 (omega arith) in
     let all : (leb 1 (length s) && (leb (length s) 7 && alnum s)) ≡ true =
     and_from _ _ (le-leb 1 (length s) some) (and_from _ _ few (sym c.if-not-alnum.ensures))
