@@ -7,13 +7,13 @@ use Rattle.scale.proofs.measuring.total.Goals as goal
 pub loop-init : goal.loop-init
 loop-init g c = totalled_none (g.B.GaugeBank.shows c.args.bank.now) c.args.address.number c.args.readings
 
-pub returns-in-err-reading : goal.returns-in-err-reading
-returns-in-err-reading g c =
+pub returns-in_err-reading : goal.returns-in_err-reading
+returns-in_err-reading g c =
     let m = g.B.GaugeBank.shows c.args.bank.now in
     let f = g.B.GaugeBank.shows c.loop.bank in
     let p = c.args.address.number in
     let ok = g.B.GaugeBank.sound c.args.bank.now p in
-    absurd (never m f p c.args.readings c.loop.counter c.loop.sum.load c.loop.sum.mark c.args.address.low ok.few ok.small c.loop-test.true c.requires.there c.loop.invariant c.in-err-reading.field-0.0 (sym c.in-err-reading.was ∙ c.take.ensures.answer))
+    absurd (never m f p c.args.readings c.loop.counter c.loop.sum.load c.loop.sum.mark c.args.address.low ok.few ok.small c.loop-test.true c.requires.there c.loop.invariant c.in_err-reading.field-0.0 (sym c.in_err-reading.was ∙ c.take.ensures.answer))
 
 pub with-sum-requires : goal.with-sum-requires
 with-sum-requires g c =
@@ -21,7 +21,7 @@ with-sum-requires g c =
     let f = g.B.GaugeBank.shows c.loop.bank in
     let p = c.args.address.number in
     let ok = g.B.GaugeBank.sound c.args.bank.now p in
-    let l = light m f p c.args.readings c.loop.counter c.loop.sum.load c.loop.sum.mark c.args.address.low ok.few ok.small c.loop-test.true c.requires.there c.loop.invariant c.in-ok-reading.reading (sym c.in-ok-reading.was ∙ c.take.ensures.answer) in
+    let l = light m f p c.args.readings c.loop.counter c.loop.sum.load c.loop.sum.mark c.args.address.low ok.few ok.small c.loop-test.true c.requires.there c.loop.invariant c.in_ok-reading.reading (sym c.in_ok-reading.was ∙ c.take.ensures.answer) in
     let few : c.loop.counter ≤ 16 = omega (arith, c.loop-test.true, c.requires.few) in
     let s = mul-le-mul_right (8 * most) few in
     record { so_far = omega (arith, c.loop.invariant.size, s); one = omega (arith, l) }
@@ -32,7 +32,7 @@ loop-preserved g c =
     let f = g.B.GaugeBank.shows c.loop.bank in
     let p = c.args.address.number in
     let ok = g.B.GaugeBank.sound c.args.bank.now p in
-    totalled_more m f p c.args.readings c.loop.counter c.loop.sum.load c.loop.sum.mark c.args.address.low ok.few ok.small c.loop-test.true c.requires.there c.loop.invariant c.in-ok-reading.reading (sym c.in-ok-reading.was ∙ c.take.ensures.answer)
+    totalled_more m f p c.args.readings c.loop.counter c.loop.sum.load c.loop.sum.mark c.args.address.low ok.few ok.small c.loop-test.true c.requires.there c.loop.invariant c.in_ok-reading.reading (sym c.in_ok-reading.was ∙ c.take.ensures.answer)
     (g.B.GaugeBank.shows c.take.new.self) c.with-sum.result.load c.with-sum.result.mark c.take.ensures.after (ap (λ (s : Sum). s.load) c.with-sum.ensures) (ap (λ (s : Sum). s.mark) c.with-sum.ensures)
 
 pub returns : goal.returns
