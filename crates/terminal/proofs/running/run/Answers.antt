@@ -8,14 +8,14 @@ use Rattle.terminal.proofs.running.run.Goals as goal
 
 pub loop-call-preserved : goal.loop-call-preserved
 loop-call-preserved g c =
-    let h = c.in-ok-reply.ensures in
+    let h = c.in_ok-reply.ensures in
     let cs = c.args.calls.now in
     let i = c.loop-call.call-index in
     let within : i < length (map ask_of cs) = simp length-map c.loop-call-test.true in
     calls_more (map ask_of cs) i (bus g.B.GaugeBank.shows c.loop-call.terminal) (bus g.B.GaugeBank.shows c.reply.new.self) (bus g.B.GaugeBank.shows c.new-terminal.result)
-    (map shown (vec_items c.loop-call.replies)) (map shown (vec_items c.push.new.self)) _ (shown c.in-ok-reply.reply)
+    (map shown (vec_items c.loop-call.replies)) (map shown (vec_items c.push.new.self)) _ (shown c.in_ok-reply.reply)
     within (obeying [] 0) (get_or-map ask_of cs i _ _ c.loop-call-test.true) h.0 h.1
-    (ap (map shown) (pushed (c.in-ok-reply.reply ∷ []) refl c.in-ok-push.was c.push.ensures.items) ∙ map_push shown (vec_items c.loop-call.replies) c.in-ok-reply.reply)
+    (ap (map shown) (pushed (c.in_ok-reply.reply ∷ []) refl c.in_ok-push.was c.push.ensures.items) ∙ map_push shown (vec_items c.loop-call.replies) c.in_ok-reply.reply)
     c.loop-call.invariant.0 c.loop-call.invariant.1
 
 pub returns : goal.returns

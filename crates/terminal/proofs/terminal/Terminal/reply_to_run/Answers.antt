@@ -7,6 +7,6 @@ use Rattle.terminal.proofs.terminal.Terminal.reply_to_run.Goals as goal
 pub returns : goal.returns
 returns g c =
     let o = c.serve-served.ensures in
-    let long = c.as-mut-slice.ensures.len ∙ c.in-ok-bytes.ensures.len in
-    run_call c.args.room (length c.as-mut-slice.result.now) (bus g.B.GaugeBank.shows c.args.self.now) (bus g.B.GaugeBank.shows c.serve-served.new.self) c.args.run.now c.serve-served.result c.serve-served.new.answers _ _
-    long o.state o.value o.buffer (c.truncate.ensures.items ∙ ap (take c.serve-served.result.written) (with_items_is c.in-ok-bytes.bytes c.serve-served.new.answers (c.serve-served.auto.answers ∙ c.as-mut-slice.ensures.len)))
+    let long = c.as_mut_slice.ensures.len ∙ c.in_ok-bytes.ensures.len in
+    run_call c.args.room (length c.as_mut_slice.result.now) (bus g.B.GaugeBank.shows c.args.self.now) (bus g.B.GaugeBank.shows c.serve-served.new.self) c.args.run.now c.serve-served.result c.serve-served.new.answers _ _
+    long o.state o.value o.buffer (c.truncate.ensures.items ∙ ap (take c.serve-served.result.written) (with_items_is c.in_ok-bytes.bytes c.serve-served.new.answers (c.serve-served.auto.answers ∙ c.as_mut_slice.ensures.len)))

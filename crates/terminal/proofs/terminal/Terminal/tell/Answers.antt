@@ -16,7 +16,7 @@ returns g c =
     let p = g.B.GaugeBank.shows c.args.self.now.bank in
     let lt : k < length ss = omega arith in
     let all = one_says (length c.args.out.now) c.args.mode a c.args.heard (get_or ss k i.result).state (state_at ss a) (p a) _ _ c.args.out.now _
-    c.requires (sym c.is-present.ensures ∙ c.if-not-is-present.false) (state_get ss k i.result lt ∙ ap (state_at ss) e) h.count h.refusal h.buffer h.brief in
+    c.requires (sym c.is_present.ensures ∙ c.if-not-is_present.false) (state_get ss k i.result lt ∙ ap (state_at ss) e) h.count h.refusal h.buffer h.brief in
     record {
       state = one_put ss c.args.mode a c.args.heard _ _ p _ (ear_of c.args.self.now.listening) k e (omega arith) all.0 h.state h.ports;
       value = all.1;

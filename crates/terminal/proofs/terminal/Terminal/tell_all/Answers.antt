@@ -7,7 +7,7 @@ pub loop-number-init : goal.loop-number-init
 loop-number-init g c = swept_none (bus g.B.GaugeBank.shows c.args.self.now) c.args.heard
 
 pub loop-number-preserved : goal.loop-number-preserved
-loop-number-preserved g c = swept_next _ _ _ _ _ c.loop-number.invariant c.tell-number.ensures
+loop-number-preserved g c = swept_next _ _ _ _ _ c.loop-number.invariant c.tell_number.ensures
 
 pub returns : goal.returns
 returns g c = swept_end _ _ _ _ c.loop-number.invariant (omega arith)
