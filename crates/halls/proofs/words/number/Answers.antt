@@ -5,8 +5,8 @@ use Rattle.halls.specs.Words.{read_on, limited}
 use Rattle.halls.proofs.Numerals.{past, goes, stops, ends, begun, within}
 use Rattle.halls.proofs.words.number.Goals as goal
 
-pub returns-then-not-is-ascii-digit : goal.returns-then-not-is-ascii-digit
-returns-then-not-is-ascii-digit c =
+pub returns-then-not-is_ascii_digit : goal.returns-then-not-is_ascii_digit
+returns-then-not-is_ascii_digit c =
     let t = c.args.word.now in
     let i = c.loop-byte.byte-index in
     let no : is_ascii_digit (get_or t i 0) ≡ false = grind (arith, nat_tests) in
@@ -30,7 +30,7 @@ loop-byte-preserved c =
     let v = c.loop-byte.value in
     let yes : is_ascii_digit (get_or t i 0) ≡ true = grind (arith, nat_tests) in
     let e = ap (limited c.args.most) (goes v t i (omega arith) yes) in
-    let step = ap (λ n. limited c.args.most (read_on (10 * v + n) (drop (i + 1) t))) c.saturating-sub.ensures in
+    let step = ap (λ n. limited c.args.most (read_on (10 * v + n) (drop (i + 1) t))) c.saturating_sub.ensures in
     (step ∙ sym e ∙ c.loop-byte.invariant.0, omega arith)
 
 pub returns : goal.returns

@@ -11,4 +11,4 @@ returns-in-45 c =
     let t = c.args.word.now in
     let e = ap (λ x. option_map (λ n. neg_ℤ (pos n)) (limited 2147483648 (number_of x))) (take_rest t 1) in
     let first : get_or t 0 0 ≡ 45 = grind (arith, nat_tests) in
-    c.negative-number.ensures ∙ e ∙ sym (minus t first)
+    c.negative_number.ensures ∙ e ∙ sym (minus t first)
