@@ -1,10 +1,10 @@
 -- What the bank calls answer and leave at a table of dials.
-use Rattle.std.proofs.Common.{◌≡◌, ℕ, zero, suc, ◌-◌, ◌≤◌, Bool, true, false, cond, eqb, leb, ◌≢◌, ◌⊎◌, List, [], ◌∷◌, map, length, get_or, replicate, ℤ, pos, Some, None, Ok, Err, Option, sym, refl, ap, ◌∙◌, ⊎_elim, sub-one, arith}
+use Rattle.std.proofs.Common.{◌≡◌, ℕ, zero, suc, ◌-◌, ◌≤◌, ◌≢◌, map, get_or, replicate, ℤ, Some, None, Ok, Option, sym, refl, ap, ◌∙◌, ⊎_elim, sub-one}
 use lib.ListN.{length-replicate}
 use Rattle.std.proofs.lemmas.Bool.{le-leb, eq-eqb, ne_eqb, cases_eq}
 use Rattle.std.proofs.lemmas.List.{length-map}
 use Rattle.bank.specs.declared.dial.Dial.{Dial}
-use Rattle.bank.specs.Ports.{Port, rest, popped, waiting_at, first_at, rest_at, ranged, first}
+use Rattle.bank.specs.Ports.{rest, popped, waiting_at, first_at, rest_at, first}
 use Rattle.bank.specs.Gauges.{reading, gauged}
 use Rattle.bank.specs.Dials.{Setting, still, still_at, setting_of, set_at, spent, dialled}
 

@@ -1,10 +1,10 @@
 -- The loops over the records of a recording, and what the bank calls answer and leave at one.
-use Rattle.std.proofs.Common.{◌≡◌, ℕ, zero, suc, ◌+◌, ◌-◌, ◌<◌, ◌≤◌, Bool, true, false, cond, eqb, leb, ◌≢◌, ◌⊎◌, List, [], ◌∷◌, map, length, get_or, drop, set, replicate, ℤ, pos, Some, None, Ok, Err, Option, sym, refl, ap, ◌∙◌, subst, ⊎_elim, arith}
+use Rattle.std.proofs.Common.{◌≡◌, ℕ, ◌+◌, ◌<◌, ◌≤◌, Bool, cond, ◌≢◌, List, [], ◌∷◌, length, get_or, drop, set, replicate, ℤ, pos, Some, None, Ok, Option, sym, refl, ap, ◌∙◌, subst, ⊎_elim, arith}
 use Rattle.std.proofs.lemmas.Bool.{le-leb, eq-eqb, ne_eqb, cases_eq, cases_lt}
-use Rattle.std.proofs.lemmas.List.{get_or-set_other, get_or-set_same, get_or_past, drop_more, drop_all, length-map, length-set}
+use Rattle.std.proofs.lemmas.List.{get_or-set_other, get_or-set_same, get_or_past, drop_more, drop_all, length-map}
 use Rattle.bank.specs.declared.record.Record.{Record}
 use Rattle.bank.specs.declared.record.Cursor.{Cursor}
-use Rattle.bank.specs.Ports.{Port, rest, popped, waiting_at, first_at, rest_at, first}
+use Rattle.bank.specs.Ports.{popped, waiting_at, first_at, rest_at}
 use Rattle.bank.specs.Gauges.{reading, gauged}
 use Rattle.bank.specs.Records.{due, due_of, origin, due_at, recorded, noted_at}
 use Rattle.bank.specs.RecordLaws.{Tallied, due_length}

@@ -1,5 +1,5 @@
 -- What a table of dials means.
-use Rattle.std.specs.Prelude.{◌≡◌, ℕ, ◌-◌, cond, ◌&&◌, List, get_or, replicate, ℤ, pos, None, Ok, Option, Result, ◌==◌, nat_le, slice_index_or}
+use Rattle.std.specs.Prelude.{ℕ, ◌-◌, cond, ◌&&◌, List, get_or, replicate, ℤ, pos, None, Ok, Option, Result, ◌==◌, nat_le, slice_index_or}
 use Rattle.std.proofs.Common.{arith}
 use Rattle.std.proofs.lemmas.List.{length-replicate}
 use Rattle.fault.specs.declared.faults.Fault.{Fault}

@@ -1,11 +1,11 @@
 -- A port with one gauge keeps the limits of a port.
-use Rattle.std.specs.Prelude.{◌≡◌, ℕ, zero, suc, ◌*◌, ◌≤◌, Bool, true, false, cond, List, [], ◌∷◌, map, length, replicate, ℤ, pos, negsuc, ◌*ℤ◌, neg_ℤ, Some, None, Option, int_lt, unsigned_abs, refl}
+use Rattle.std.specs.Prelude.{◌≡◌, ℕ, zero, suc, ◌*◌, ◌≤◌, List, [], ◌∷◌, map, length, ℤ, pos, negsuc, ◌*ℤ◌, neg_ℤ, Some, None, Option, int_lt, unsigned_abs, refl}
 use Rattle.std.proofs.Common.{ap, ◌∙◌, arith, mul-le-mul}
 use Rattle.std.proofs.Math.IntN.{pos-*ℤ-pos, negsuc-*ℤ-pos}
 use Rattle.std.proofs.lemmas.Int.{ints}
 use Rattle.std.proofs.lemmas.Bool.{cond_both}
-use Rattle.std.proofs.lemmas.List.{length-map, length-replicate}
-use Rattle.bank.specs.Ports.{Port, Sound, Small, most, none}
+use Rattle.std.proofs.lemmas.List.{length-map}
+use Rattle.bank.specs.Ports.{Sound, Small, most, none}
 use Rattle.bank.specs.Gauges.{held, reading, gauged}
 
 size_neg : (n : ℕ) → unsigned_abs (neg_ℤ (pos n)) ≡ n

@@ -1,5 +1,5 @@
 -- One gauge: its corner factor, and what it reads.
-use Rattle.std.specs.Prelude.{ℕ, Bool, cond, ◌&&◌, List, map, ℤ, pos, negsuc, ◌*ℤ◌, is_ok, Some, None, Ok, Err, Option, Result, ◌==◌, int_lt, nat_le}
+use Rattle.std.specs.Prelude.{ℕ, cond, ◌&&◌, List, map, ℤ, pos, negsuc, ◌*ℤ◌, is_ok, Some, None, Ok, Err, Option, Result, ◌==◌, int_lt, nat_le}
 use Rattle.fault.specs.declared.faults.Fault.{Fault}
 use Rattle.fault.specs.declared.causes.Cause.TheVariants.{FactorRange}
 use Rattle.fault.specs.Faults.{refusal}

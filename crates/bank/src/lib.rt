@@ -1,4 +1,6 @@
 // Banks of load gauges: what a bank means, and two that hold gauges of their own.
+#![tactic(auto)]
+
 mod counts;
 mod dial;
 mod dials;

@@ -1,5 +1,5 @@
 -- The longest front of a list whose elements pass a test. Assumes nothing.
-use Rattle.std.proofs.Common.{◌≡◌, suc, ◌+◌, ◌-◌, ◌<◌, Bool, true, false, cond, List, [], ◌∷◌, length, get_or, take, refl, ap, ◌∙◌, one-add, arith}
+use Rattle.std.proofs.Common.{◌≡◌, suc, ◌+◌, ◌<◌, Bool, true, false, cond, List, [], ◌∷◌, length, get_or, take, refl, ap, ◌∙◌, one-add, arith}
 use Rattle.std.specs.List.{prefix_len, AllByRecursion as All}
 
 module _ {X : Type 0} (p : X → Bool) where

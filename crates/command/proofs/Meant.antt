@@ -1,5 +1,5 @@
 -- What is taken apart as a number is written so, and its exact value is the one that is read. Assumes nothing.
-use Rattle.std.proofs.Common.{◌≡◌, ℕ, ◌+◌, ◌*◌, ◌/◌, ◌%◌, ◌^◌, ◌<◌, ◌≤◌, Bool, true, false, ◌||◌, eqb, leb, List, [], ◌∷◌, ◌++◌, length, ℤ, Some, None, fold, Option, sym, refl, ap, ◌∙◌, subst, ⊎_elim, mul-div_cancel, arith}
+use Rattle.std.proofs.Common.{◌≡◌, ℕ, ◌*◌, ◌/◌, ◌%◌, ◌^◌, ◌<◌, ◌≤◌, Bool, true, false, ◌||◌, eqb, leb, List, [], ◌∷◌, ◌++◌, length, ℤ, Some, None, fold, Option, sym, refl, ap, ◌∙◌, subst, ⊎_elim, mul-div_cancel, arith}
 use native.Mathlib.Nat.{mul-mod_left}
 use Rattle.std.specs.Option.{option_map}
 use Rattle.std.specs.Char.{is_ascii_digit}
@@ -11,7 +11,7 @@ use Rattle.std.proofs.lemmas.Bool.{cond-true, cond-false, cases_Bool, eqb-true, 
 use Rattle.std.proofs.lemmas.Bool.Decides.{nat_tests}
 use Rattle.command.specs.declared.decimal.Numeral.{Numeral}
 use Rattle.command.specs.Numbers.{more, front, back, numeral, short, power_of, powered, pointed, fraction, unsigned, signed, numeral_of, sign, size, exact, exactly, number_of}
-use Rattle.command.specs.Meanings.{Sign, none, plus, minus, Writing, sign_bytes, point_bytes, power_bytes, written, Digits, Power, Formed, negative, value, exponent_of, Means, ExactValue}
+use Rattle.command.specs.Meanings.{Sign, none, plus, minus, Writing, sign_bytes, point_bytes, power_bytes, written, Digits, Power, Formed, negative, exponent_of, Means, ExactValue}
 use Rattle.command.proofs.Fronts.{front_passes}
 use Rattle.command.proofs.Options.{nothing, either_way, inside}
 use Rattle.command.proofs.Sizes.{tens}

@@ -1,4 +1,6 @@
 // Reads the commands of a scale terminal: splitting, blanks, selects, initials, parameters, numbers and texts.
+#![tactic(auto)]
+
 mod arguments;
 mod blanks;
 mod conditions;

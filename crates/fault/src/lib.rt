@@ -1,4 +1,6 @@
 // Why a call refuses: its cause, with a number and a layer, its place, and the text in which a scale remembers it.
+#![tactic(auto)]
+
 mod causes;
 mod faults;
 mod memory;

@@ -1,4 +1,6 @@
 // Plays the script of a hall that standard input holds.
+#![tactic(auto)]
+
 use halls::play;
 use std::io;
 

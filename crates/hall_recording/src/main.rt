@@ -1,4 +1,6 @@
 // Plays the script of a hall, here one over a recording.
+#![tactic(auto)]
+
 use halls::play;
 use std::io;
 

@@ -1,12 +1,11 @@
 -- What is written for bytes is read as those bytes.
-use Rattle.std.proofs.Common.{◌≡◌, ℕ, ◌+◌, ◌-◌, ◌*◌, ◌/◌, ◌%◌, ◌<◌, ◌≤◌, Bool, true, false, cond, ◌&&◌, eqb, ltb, leb, List, [], ◌∷◌, ◌++◌, Some, None, Option, sym, refl, ap, ◌∙◌, subst, arith}
+use Rattle.std.proofs.Common.{◌≡◌, ℕ, ◌+◌, ◌*◌, ◌/◌, ◌%◌, ◌<◌, ◌≤◌, true, false, eqb, ltb, List, [], ◌∷◌, ◌++◌, Some, None, Option, sym, refl, ap, ◌∙◌, arith}
 use Rattle.std.specs.Option.{option_map}
-use Rattle.std.specs.List.{AllByRecursion as All}
 use Rattle.std.proofs.lemmas.Bool.{cond_both, cond-true, cond-false, eqb-true, ltb-true, ltb-false}
 use Rattle.std.proofs.lemmas.Bool.Decides.{nat_tests}
 use Rattle.halls.specs.declared.spelling.Spelling.{Spelling}
 use Rattle.halls.specs.declared.spelling.Spelling.TheVariants.{Itself, Letter, Digits}
-use Rattle.halls.specs.declared.escapes.Wanted.TheVariants.{Any, Low, High, Escape}
+use Rattle.halls.specs.declared.escapes.Wanted.TheVariants.{Any, Low}
 use Rattle.halls.specs.Escapes.{printable, glyph_of, spelled, text_of, escaped, nibble_of, gives, wants, onward, decoded, ReadsBack}
 
 -- a byte in front of a result

@@ -1,4 +1,6 @@
 // A hall described by a script: its bank, its boxes, and a terminal over them. The programs that play scripts share it.
+#![tactic(auto)]
+
 mod answering;
 mod answers;
 mod beneath;

@@ -1,5 +1,5 @@
 -- The feeding map of a box: which port above each port below feeds.
-use Rattle.std.specs.Prelude.{ℕ, zero, suc, List, [], ◌∷◌, replicate, Some, None, Option, slice_index_or, slice_set}
+use Rattle.std.specs.Prelude.{ℕ, replicate, Some, None, Option, slice_index_or, slice_set}
 use Rattle.junction.specs.declared.feeds.Feeds.{Feeds}
 
 -- the port that the port q feeds, where it was joined to a or not

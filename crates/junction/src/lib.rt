@@ -1,4 +1,6 @@
 // Junction boxes: several ports of a bank joined into one, on any bank, boxes included.
+#![tactic(auto)]
+
 mod feeds;
 mod gathering;
 mod joins;

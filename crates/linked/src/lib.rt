@@ -1,4 +1,6 @@
 // The terminal behind functions that Rust and C can link: each makes a hall, and serves one byte run in it.
+#![tactic(auto)]
+
 mod serving;
 
 pub use serving::{served, weighing_serve_dials, weighing_serve_recording};

@@ -1,4 +1,6 @@
 // A platform on four gauges and a scale of its own, served from standard input.
+#![tactic(auto)]
+
 ghost use Rattle.std.specs.Prelude.{◌≤◌, length, IfOk};
 
 use anyhow::anyhow;

@@ -1,11 +1,10 @@
 -- The laws of one scale.
-use Rattle.std.proofs.Common.{◌≡◌, ℕ, ◌<◌, Bool, true, false, cond, not, ◌&&◌, eqb, ltb, leb, ◌⊎◌, List, length, ℤ, pos, negsuc, ◌-ℤ◌, Some, None, Ok, Err, Option, Result, sym, refl, ap, ◌∙◌, subst, inl, inr, arith}
+use Rattle.std.proofs.Common.{◌≡◌, ℕ, ◌<◌, Bool, true, false, cond, eqb, ltb, leb, List, length, ℤ, pos, negsuc, ◌-ℤ◌, Some, None, Ok, Err, Option, Result, refl, subst, inl, inr, arith}
 use lib.Signed.{lt_z}
 use Rattle.fault.specs.declared.faults.Fault.{Fault}
 use Rattle.bank.specs.Ports.{Port}
 use Rattle.bank.specs.Fitting.{mapped_ok}
-use Rattle.command.specs.Conditions.{needs_password, broadcast_of, above}
-use Rattle.command.specs.Table.{row_of}
+use Rattle.command.specs.Conditions.{needs_password, broadcast_of}
 use Rattle.command.specs.Texts.{same_text}
 use Rattle.command.specs.declared.orders.Argument.{Argument}
 use Rattle.command.specs.declared.orders.Argument.TheVariants.{Absent, Number, Text}
@@ -16,7 +15,7 @@ use Rattle.command.specs.declared.orders.Mnemonic.TheVariants.{Cof, Icr, Nov, Rs
 use Rattle.command.specs.declared.orders.Order.{Order}
 use Rattle.command.specs.declared.texts.Text.{Text as a_text}
 use Rattle.value.proofs.Products.{shown_law}
-use Rattle.value.specs.Output.{format_block, full_shown}
+use Rattle.value.specs.Output.{full_shown}
 use Rattle.scale.specs.declared.answers.Answer.{Answer}
 use Rattle.scale.specs.declared.answers.Answer.TheVariants.{Silence, Line, Memory, Value}
 use Rattle.scale.specs.declared.averaging.Averaging.{Averaging}
@@ -29,7 +28,7 @@ use Rattle.scale.specs.declared.settings.Settings.{Settings}
 use Rattle.scale.specs.declared.state.State.{State}
 use Rattle.scale.specs.declared.step.Step.{Step as the_step}
 use Rattle.scale.specs.declared.step.Step.TheVariants.{One, Two, Five, Ten, Twenty, Fifty, Hundred}
-use Rattle.scale.specs.Blocks.{blocks, block_port, readings_for, weighings, holding, refused_or}
+use Rattle.scale.specs.Blocks.{readings_for, holding, refused_or}
 use Rattle.scale.specs.Calibrating.{Acted, load_given, given_port, load_of, keeps, calibrates, full_over, tared, dead_loads, full_loads, tares}
 use Rattle.scale.specs.Choices.{readings_of, step_value}
 use Rattle.scale.specs.Entering.{entered}
@@ -39,7 +38,6 @@ use Rattle.scale.specs.Laws.{Kept, RefusalsKeep, SettingsKept, query, QueriesKee
 use Rattle.scale.specs.Measuring.{dropped, measurement, measures, measured_port}
 use Rattle.scale.specs.Orders.{block_size, number_in, text_in, task_of}
 use Rattle.scale.specs.Queries.{tells, clears, asked_for}
-use Rattle.scale.specs.States.{with_opened}
 
 -- ---- what is refused is kept
 -- a scale and its port are kept if the reply is a refusal

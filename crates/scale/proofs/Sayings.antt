@@ -1,6 +1,6 @@
 -- How long an answer is, and that nobody answers in a broadcast.
-use Rattle.std.proofs.Common.{◌≡◌, ℕ, zero, suc, ◌≤◌, Bool, true, false, cond, ◌&&◌, leb, List, [], ◌∷◌, ◌++◌, length, drop, ℤ, pos, negsuc, Some, None, Ok, Err, Option, Result, sym, refl, ap, ◌∙◌, subst, arith, length-append}
-use Rattle.std.proofs.lemmas.Bool.{cond_both, leb-true, cases_Bool, false≢true}
+use Rattle.std.proofs.Common.{◌≡◌, ℕ, zero, suc, ◌≤◌, Bool, true, false, ◌&&◌, leb, List, [], ◌∷◌, length, drop, ℤ, pos, negsuc, Some, None, Ok, Err, Option, Result, refl, ap, arith}
+use Rattle.std.proofs.lemmas.Bool.{cond_both, leb-true, false≢true}
 use Rattle.fault.specs.declared.faults.Fault.{Fault}
 use Rattle.fault.specs.declared.causes.Cause.TheVariants.{OutOfRange, TooFewReadings}
 use Rattle.fault.specs.Faults.{refusal}
@@ -10,12 +10,10 @@ use Rattle.bank.specs.Ports.{Port}
 use Rattle.bank.specs.Fitting.{mapped_ok}
 use Rattle.command.specs.declared.orders.Argument.{Argument}
 use Rattle.command.specs.declared.orders.Argument.TheVariants.{Absent, Number, Text}
-use Rattle.command.specs.declared.orders.Heard.{Heard}
 use Rattle.command.specs.declared.orders.Heard.TheVariants.{Blank, Select, Command}
 use Rattle.command.specs.declared.orders.Order.{Order}
 use Rattle.value.specs.Output.{format_block}
 use Rattle.value.specs.Plain.{plain_text, line}
-use Rattle.value.specs.declared.block.Measured.{Measured}
 use Rattle.value.specs.declared.plain.Plain.{Plain as ALine}
 use Rattle.value.specs.declared.plain.Plain.TheVariants.{Done, Refused, Digit, ThreeDigits, Signed}
 use Rattle.value.proofs.Laws.{blocks_have_room}
@@ -31,7 +29,7 @@ use Rattle.scale.specs.declared.state.State.{State}
 use Rattle.scale.specs.Answers.{answer_bytes}
 use Rattle.scale.specs.Blocks.{weighings, readings_for, blocks, refused_or}
 use Rattle.scale.specs.Choices.{readings_of}
-use Rattle.scale.specs.Hearing.{in_mode, voiced, held_answer, weighs, by_task, obeys_by, obeys, admitted, settled, ordered, selected, hears, Brief, Silent}
+use Rattle.scale.specs.Hearing.{in_mode, voiced, held_answer, weighs, by_task, obeys_by, obeys, admitted, settled, selected, hears, Brief, Silent}
 use Rattle.scale.specs.Measuring.{measures}
 use Rattle.scale.specs.Orders.{few, block_size, task_of}
 

@@ -1,5 +1,5 @@
 -- The loop that takes the readings of a measurement and adds them.
-use Rattle.std.proofs.Common.{◌≡◌, ℕ, zero, suc, ◌+◌, ◌-◌, ◌*◌, ◌<◌, ◌≤◌, Bool, true, false, ◌||◌, List, [], ◌∷◌, length, drop, ℤ, pos, ◌+ℤ◌, nat_abs, Ok, Err, Result, sym, refl, ap, ◌∙◌, subst, mul-le-mul_right, add-mul, arith, w64, SFits, to_z, of_z}
+use Rattle.std.proofs.Common.{◌≡◌, ℕ, zero, suc, ◌+◌, ◌-◌, ◌*◌, ◌<◌, ◌≤◌, Bool, true, false, ◌||◌, List, [], ◌∷◌, length, drop, ℤ, pos, ◌+ℤ◌, nat_abs, Ok, Err, sym, refl, ap, ◌∙◌, subst, mul-le-mul_right, add-mul, arith}
 use lib.IntN.{+ℤ_assoc, +ℤ_idr, +ℤ_idl}
 use borrow.Author.Differences.{ints}
 use Rattle.std.proofs.lemmas.List.{drop-drop, length-drop}
@@ -8,9 +8,9 @@ use Rattle.fault.specs.declared.faults.Fault.{Fault}
 use Rattle.bank.specs.declared.reading.Mark.{Mark}
 use Rattle.bank.specs.declared.reading.Reading.{Reading}
 use Rattle.bank.specs.Readings.{either}
-use Rattle.bank.specs.Ports.{Port, Sound, Small, most, rest, popped, first, first_at, rest_at, ranged}
+use Rattle.bank.specs.Ports.{Port, Small, most, rest, first, first_at, rest_at}
 use Rattle.scale.specs.Measuring.{put_port, dropped, clear, summed, marks, sums}
-use Rattle.scale.proofs.Putting.{put_same, put_here, put_again, rest_put}
+use Rattle.scale.proofs.Putting.{put_same, put_here, rest_put}
 
 -- what is left after i of n readings
 pub rest_drop : (i : ℕ) (xs : List Reading) → rest (drop i xs) ≡ drop (i + 1) xs

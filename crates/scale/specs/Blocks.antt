@@ -13,7 +13,7 @@ use Rattle.scale.specs.declared.settings.Settings.{Settings}
 use Rattle.scale.specs.declared.state.State.{State}
 use Rattle.scale.specs.declared.state.Ticket.{Ticket}
 use Rattle.scale.specs.Choices.{readings_of}
-use Rattle.scale.specs.Measuring.{dropped, measurement, measures, measured_port}
+use Rattle.scale.specs.Measuring.{dropped, measurement}
 use Rattle.scale.specs.States.{with_held}
 use Rattle.scale.specs.Weighing.{weighed}
 

@@ -1,5 +1,5 @@
 -- The bounds of the loads that a scale remembers, in 1/16,000 digit: no arithmetic on them leaves 64 bits.
-use Rattle.std.specs.Prelude.{ℕ, ◌^◌, ◌≤◌, ℤ, pos, Some, None, Option, unsigned_abs}
+use Rattle.std.specs.Prelude.{◌^◌, ◌≤◌, ℤ, pos, Some, None, Option, unsigned_abs}
 use Rattle.scale.specs.declared.settings.Settings.{Settings}
 use Rattle.scale.specs.declared.state.State.{State}
 

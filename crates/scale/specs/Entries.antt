@@ -1,5 +1,5 @@
 -- The entries that need no gauge.
-use Rattle.std.specs.Prelude.{ℕ, zero, suc, Bool, true, false, cond, ℤ, pos, negsuc, Some, None, Ok, Err, Option, Result, ◌==◌}
+use Rattle.std.specs.Prelude.{ℕ, Bool, cond, ℤ, pos, negsuc, Some, None, Ok, Err, Option, Result, ◌==◌}
 use Rattle.fault.specs.declared.faults.Fault.{Fault}
 use Rattle.fault.specs.declared.causes.Cause.TheVariants.{UnknownCommand, OutOfRange, WrongPassword}
 use Rattle.fault.specs.Faults.{refusal}

@@ -18,7 +18,7 @@ use Rattle.scale.specs.declared.modes.Mode.TheVariants.{Selected}
 use Rattle.scale.specs.declared.settings.Settings.{Settings}
 use Rattle.scale.specs.declared.state.State.{State}
 use Rattle.scale.specs.Choices.{readings_of, weight_of, step_value}
-use Rattle.scale.specs.Hearing.{Outcome, obeys, hears}
+use Rattle.scale.specs.Hearing.{obeys, hears}
 use Rattle.scale.specs.Measuring.{summed, measurement}
 use Rattle.scale.specs.States.{restarted}
 use Rattle.scale.specs.Weighing.{net_shown, gross_shown}

@@ -1,5 +1,5 @@
 -- The queries that need no gauge.
-use Rattle.std.specs.Prelude.{ℕ, cond, pos, Some, None, Ok, Err, Option}
+use Rattle.std.specs.Prelude.{ℕ, pos, Some, None, Ok, Err, Option}
 use Rattle.fault.specs.declared.causes.Cause.TheVariants.{UnknownCommand}
 use Rattle.fault.specs.Faults.{refusal}
 use Rattle.command.specs.declared.orders.Mnemonic.{Mnemonic}

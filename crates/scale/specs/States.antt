@@ -1,5 +1,5 @@
 -- What a scale remembers, with a part of it changed.
-use Rattle.std.specs.Prelude.{Bool, false, ℤ, Some, None, Option}
+use Rattle.std.specs.Prelude.{Bool, false, ℤ, None, Option}
 use Rattle.fault.specs.declared.faults.Fault.{Fault}
 use Rattle.scale.specs.declared.settings.Settings.{Settings}
 use Rattle.scale.specs.declared.state.State.{State}

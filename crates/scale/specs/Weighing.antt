@@ -1,5 +1,5 @@
 -- What a load weighs under the settings of a scale.
-use Rattle.std.specs.Prelude.{ℕ, Bool, true, ℤ, ◌-ℤ◌}
+use Rattle.std.specs.Prelude.{Bool, true, ℤ, ◌-ℤ◌}
 use Rattle.value.specs.Fitting.{fits}
 use Rattle.value.specs.Output.{shape, full_shown}
 use Rattle.value.specs.Scaled.{scaled}

@@ -1,4 +1,6 @@
 // One scale: its settings, measuring, and what it does with a command.
+#![tactic(auto)]
+
 mod address;
 mod answers;
 mod averaging;

@@ -1,4 +1,6 @@
 // The bus: a terminal of 32 scales over one bank of gauges, who listens, obeying, serving, and whole runs.
+#![tactic(auto)]
+
 mod answers;
 mod calls;
 mod listening;

@@ -1,3 +1,5 @@
+#![tactic(auto)]
+
 // Examples of boxes over each kind of bank.
 #[cfg(test)]
 mod boxes;

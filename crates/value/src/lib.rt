@@ -1,4 +1,6 @@
 // Values as they are shown: one exact rounding, and the formats they are written in.
+#![tactic(auto)]
+
 pub mod binary;
 pub mod block;
 pub mod decimal;

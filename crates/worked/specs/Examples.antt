@@ -1,8 +1,8 @@
 -- The worked examples, one to a line.
-use Rattle.std.specs.Prelude.{◌≡◌, ℕ, true, false, cond, ◌&&◌, List, [], ◌∷◌, ◌++◌, ℤ, pos, neg_ℤ, Some, None, Ok, Err, codes, Option, ◌==◌, nat_le}
+use Rattle.std.specs.Prelude.{◌≡◌, ℕ, true, cond, ◌&&◌, List, [], ◌∷◌, ◌++◌, ℤ, pos, neg_ℤ, Some, None, Ok, Err, codes, ◌==◌, nat_le}
 use Rattle.fault.specs.declared.causes.Cause.TheVariants.{Malformed, OutOfRange}
 use Rattle.fault.specs.Faults.{refusal}
-use Rattle.bank.specs.Dials.{Setting, dialled}
+use Rattle.bank.specs.Dials.{dialled}
 use Rattle.bank.specs.Gauges.{gauged}
 use Rattle.bank.specs.Ports.{Port}
 use Rattle.command.specs.Readings.{reading}
@@ -25,7 +25,6 @@ use Rattle.terminal.specs.Transcripts.{said}
 use Rattle.value.specs.Written.{crlf}
 use Rattle.value.specs.declared.layout.Layout.{Layout}
 use Rattle.value.specs.declared.layout.Layout.TheVariants.{ThreeBytesStatus, ThreeBytesStatusReversed, TwoBytes, Decimal}
-use Rattle.value.specs.declared.output.OutputFormat.{OutputFormat}
 
 -- the digits of the four gauges under the platform
 abbrev pub corner_digits : ℕ → ℕ

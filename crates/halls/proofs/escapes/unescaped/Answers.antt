@@ -1,4 +1,4 @@
-use Rattle.std.proofs.Common.{◌≡◌, ◌+◌, drop, vec_items, sym, ap, ◌∙◌, arith}
+use Rattle.std.proofs.Common.{◌+◌, drop, vec_items, sym, ap, ◌∙◌, arith}
 use Rattle.halls.specs.Escapes.{decoded}
 use Rattle.halls.proofs.Decoding.{behind, goes, stops, ends, whole, broken}
 use Rattle.halls.proofs.escapes.unescaped.Goals as goal

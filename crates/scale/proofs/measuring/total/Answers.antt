@@ -1,7 +1,7 @@
-use Rattle.std.proofs.Common.{◌≡◌, ◌*◌, ◌≤◌, nat_abs, Ok, sym, refl, ap, ◌∙◌, subst, mul-le-mul_right, arith}
+use Rattle.std.proofs.Common.{◌*◌, ◌≤◌, Ok, sym, ap, ◌∙◌, mul-le-mul_right, arith}
 use Rattle.bank.specs.Ports.{most}
 use Rattle.scale.specs.declared.measuring.Sum.{Sum}
-use Rattle.scale.proofs.Totals.{Totalled, totalled_none, totalled_more, totalled_all, light, never}
+use Rattle.scale.proofs.Totals.{totalled_none, totalled_more, totalled_all, light, never}
 use Rattle.scale.proofs.measuring.total.Goals as goal
 
 pub loop-init : goal.loop-init

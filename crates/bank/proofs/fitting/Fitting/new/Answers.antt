@@ -1,4 +1,4 @@
-use Rattle.std.proofs.Common.{ℕ, None, Option, ap}
+use Rattle.std.proofs.Common.{None, Option}
 use Rattle.std.specs.Option.{option_map}
 use Rattle.bank.specs.declared.factor.CornerFactor.{CornerFactor}
 use Rattle.bank.specs.Fitting.{thousandths_of}

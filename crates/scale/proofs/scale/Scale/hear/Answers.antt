@@ -1,8 +1,7 @@
-use Rattle.std.proofs.Common.{◌≡◌, ℕ, ◌≤◌, Bool, true, false, cond, ltb, leb, List, [], ◌++◌, length, drop, Some, sym, refl, ap, ◌∙◌, arith}
+use Rattle.std.proofs.Common.{◌≡◌, ℕ, ◌≤◌, Bool, cond, List, [], ◌++◌, length, drop, Some, sym, ap, ◌∙◌, arith}
 use Rattle.std.proofs.lemmas.Bool.{lt-ltb, le-ltb, le-leb}
-use Rattle.value.specs.Written.{granted, written}
-use Rattle.scale.specs.Hearing.{hears, within}
-use Rattle.scale.specs.Measuring.{put_port}
+use Rattle.value.specs.Written.{granted}
+use Rattle.scale.specs.Hearing.{hears}
 use Rattle.scale.proofs.Putting.{put_same}
 use Rattle.scale.proofs.Laws.{scale_laws}
 use Rattle.scale.proofs.Sayings.{brief, silent}

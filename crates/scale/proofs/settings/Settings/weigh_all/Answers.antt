@@ -1,8 +1,7 @@
-use Rattle.std.proofs.Common.{◌≡◌, ℕ, ◌<◌, ◌≤◌, List, length, sym, refl, ap, ◌∙◌, subst, arith}
-use Rattle.bank.specs.Ports.{Port}
+use Rattle.std.proofs.Common.{ℕ, ◌≤◌, length, sym, refl, ap, ◌∙◌, subst, arith}
 use Rattle.scale.specs.Blocks.{weighings, readings_for}
 use Rattle.scale.specs.Measuring.{put_port, dropped}
-use Rattle.scale.proofs.Weighings.{Weighed, weighed_none, weighed_more, weighed_all, never}
+use Rattle.scale.proofs.Weighings.{weighed_none, weighed_more, weighed_all, never}
 use Rattle.scale.proofs.settings.Settings.weigh_all.Goals as goal
 
 pub loop-i-init : goal.loop-i-init

@@ -1,4 +1,3 @@
-use Rattle.std.proofs.Common.{◌≡◌, length}
 use Rattle.scale.proofs.Weighings.{Weighed}
 use Rattle.scale.proofs.settings.Settings.weigh_all.Given as goal
 
