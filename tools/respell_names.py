@@ -68,6 +68,14 @@ def definitions(root):
     return found, fields
 
 
+def unaliased(text):
+    """A word of the library that stood under the name of another is cited by its own name."""
+    if "AllByRecursion as All" not in text:
+        return text
+    text = text.replace("AllByRecursion as All", "AllByRecursion")
+    return re.sub(r"(?<![\w'.-])All(?![\w'-])", "AllByRecursion", text)
+
+
 def masked(text):
     """A .rt file with comments, strings and characters blanked."""
     def blank(m):
@@ -107,7 +115,7 @@ def main():
         with open(p, encoding="utf-8") as f:
             text = f.read()
         view = masked(text) if p.endswith(".rt") else re.sub(r'"(?:\\.|[^"\\\n])*"', lambda m: "\0" * len(m[0]), text)
-        new = turn(text, view, table, fields)
+        new = unaliased(turn(text, view, table, fields))
         if new != text:
             count += 1
             with open(p, "w", encoding="utf-8") as f:

@@ -1,10 +1,10 @@
 -- The longest front of a list whose elements pass a test. Assumes nothing.
 use Rattle.std.proofs.Common.{◌≡◌, suc, ◌+◌, ◌<◌, Bool, true, false, cond, List, [], ◌∷◌, length, get_or, take, refl, ap, ◌∙◌, one-add, arith}
-use Rattle.std.specs.List.{prefix_len, AllByRecursion as All}
+use Rattle.std.specs.List.{prefix_len, AllByRecursion}
 
 module _ {X : Type 0} (p : X → Bool) where
   abbrev pub Passes : List X → Type 0
-  Passes xs = All (λ x. p x ≡ true) xs
+  Passes xs = AllByRecursion (λ x. p x ≡ true) xs
 
   passes_step : (x : X) (xs : List X) (b : Bool) → p x ≡ b → Passes (take (prefix_len p xs) xs) → Passes (take (cond b (1 + prefix_len p xs) 0) (x ∷ xs))
   passes_step x xs true e h = rw one-add (e, h)

@@ -1,7 +1,7 @@
 -- A text is read exactly where it stands in double quotes. Assumes nothing.
 use Rattle.std.proofs.Common.{◌≡◌, ℕ, suc, ◌+◌, ◌-◌, ◌<◌, true, false, ◌&&◌, eqb, leb, List, [], ◌∷◌, ◌++◌, length, get_or, take, drop, Some, sym, refl, ap, ◌∙◌, subst, arith}
 use Rattle.std.specs.Char.{is_ascii_alphanumeric}
-use Rattle.std.specs.List.{prefix_len, AllByRecursion as All}
+use Rattle.std.specs.List.{prefix_len, AllByRecursion}
 use Rattle.std.proofs.lemmas.List.{take-append-drop, take_all, take_at, drop_more, drop_all, get_or_push, length-append}
 use Rattle.std.proofs.lemmas.Bool.{cond-true, eq-eqb, eqb-true, le-leb, leb-true, and_parts, and_from, both_ways}
 use Rattle.command.specs.declared.texts.Text.{Text}
@@ -9,10 +9,10 @@ use Rattle.command.specs.Texts.{alnum, word_of, quoted, text_of, Quotes, ExactTe
 use Rattle.command.proofs.Fronts.{front_passes, front_all}
 use Rattle.command.proofs.Options.{nothing, either_way, inside}
 
-alnum_back : (s : List ℕ) → alnum s ≡ true → All (λ b. is_ascii_alphanumeric b ≡ true) s
+alnum_back : (s : List ℕ) → alnum s ≡ true → AllByRecursion (λ b. is_ascii_alphanumeric b ≡ true) s
 alnum_back s h =
     let n = eqb-true (prefix_len is_ascii_alphanumeric s) (length s) h in
-    let P : List ℕ → Type 0 = λ t. All (λ b. is_ascii_alphanumeric b ≡ true) t in
+    let P : List ℕ → Type 0 = λ t. AllByRecursion (λ b. is_ascii_alphanumeric b ≡ true) t in
     subst P (take_all (prefix_len is_ascii_alphanumeric s) s (omega arith)) (front_passes is_ascii_alphanumeric s)
 
 -- bytes between a first and a last one

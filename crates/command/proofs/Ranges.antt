@@ -2,7 +2,7 @@
 use Rattle.std.proofs.Common.{◌≡◌, ℕ, suc, ◌+◌, ◌^◌, ◌<◌, ◌≤◌, Bool, true, false, ◌&&◌, ◌||◌, List, [], ◌∷◌, length, get_or, drop, ℤ, pos, negsuc, neg_ℤ, Some, None, Option, sym, refl, ap, ◌∙◌, subst, ⊎_elim, arith, lit<, lit≤, w32, SFits}
 use lib.Signed.{le_z, mag}
 use Rattle.std.specs.Option.{option_map}
-use Rattle.std.specs.List.{AllByRecursion as All}
+use Rattle.std.specs.List.{AllByRecursion}
 use Rattle.std.proofs.lemmas.List.{at_drop_more, at_drop_all}
 use Rattle.std.proofs.lemmas.Int.{ints}
 use Rattle.std.proofs.lemmas.Bool.{or_cases, or_left, cond-false, cases_lt, cases_Bool, both_ways}
@@ -35,16 +35,16 @@ module _ (vs : List ℤ) (n : ℤ) (i : ℕ) where
   unfolding among
   among_all h = at_drop_all (λ l. among l n) vs i h
 
-pub among_fits : (vs : List ℤ) → All (SFits w32) vs → (n : ℤ) → among vs n ≡ true → SFits w32 n
+pub among_fits : (vs : List ℤ) → AllByRecursion (SFits w32) vs → (n : ℤ) → among vs n ≡ true → SFits w32 n
 unfolding among
 among_fits [] f n e = absurd (both_ways false refl e)
 among_fits (v ∷ vs) f n e =
     ⊎_elim (λ y. subst (SFits w32) (level_same v n y) f.0) (λ z. among_fits vs f.1 n z) (or_cases (level v n) (among vs n) e)
 
-pub formats_fit : All (SFits w32) formats
+pub formats_fit : AllByRecursion (SFits w32) formats
 formats_fit = (record { sfits = lit< tt }, (record { sfits = lit< tt }, (record { sfits = lit< tt }, (record { sfits = lit< tt }, (record { sfits = lit< tt }, (record { sfits = lit< tt }, (record { sfits = lit< tt }, (record { sfits = lit< tt }, (record { sfits = lit< tt }, (record { sfits = lit< tt }, (record { sfits = lit< tt }, (record { sfits = lit< tt }, (record { sfits = lit< tt }, (record { sfits = lit< tt }, (record { sfits = lit< tt }, (record { sfits = lit< tt }, tt))))))))))))))))
 
-pub steps_fit : All (SFits w32) steps
+pub steps_fit : AllByRecursion (SFits w32) steps
 steps_fit = (record { sfits = lit< tt }, (record { sfits = lit< tt }, (record { sfits = lit< tt }, (record { sfits = lit< tt }, (record { sfits = lit< tt }, (record { sfits = lit< tt }, (record { sfits = lit< tt }, tt)))))))
 
 -- what lies past the cap is not admitted, nor is the cap

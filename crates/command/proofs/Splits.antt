@@ -1,6 +1,6 @@
 -- The first of two bytes, and the bytes before the first end character. Assumes nothing.
 use Rattle.std.proofs.Common.{◌≡◌, ℕ, ◌<◌, ◌≤◌, true, ltb, List, ◌++◌, length, get_or, take, Some, None, sym, ap, ◌∙◌, subst, arith}
-use Rattle.std.specs.List.{prefix_len, AllByRecursion as All}
+use Rattle.std.specs.List.{prefix_len, AllByRecursion}
 use Rattle.std.proofs.lemmas.List.{take-append-drop, take_all, drop_more, length-take-le}
 use Rattle.std.proofs.lemmas.Bool.{lt-ltb, le-ltb, cond-true, cond-false, cond_both, ltb-true, ltb-false}
 use Rattle.command.specs.Cuts.{other, first_of, plain, cut_at, cut_of, Cuts}
@@ -25,7 +25,7 @@ module _ (bs : List ℕ) where
       (front_passes plain bs, (get_or bs n 0, front_stops plain bs 0 h, whole), omega arith)
 
   cuts_none : length bs ≤ prefix_len plain bs → Cuts bs (cut_at bs None)
-  cuts_none h = let P : List ℕ → Type 0 = λ t. All (λ b. plain b ≡ true) t in subst P (take_all (prefix_len plain bs) bs h) (front_passes plain bs)
+  cuts_none h = let P : List ℕ → Type 0 = λ t. AllByRecursion (λ b. plain b ≡ true) t in subst P (take_all (prefix_len plain bs) bs h) (front_passes plain bs)
 
   pub cuts : Cuts bs (cut_of bs)
   unfolding first_of

@@ -1,7 +1,7 @@
 -- Where one of two bytes stands first, and the command before the first end character. Assumes nothing.
 use Rattle.std.specs.Prelude.{◌≡◌, ℕ, ◌+◌, Bool, true, false, cond, not, ◌||◌, List, ◌∷◌, ◌++◌, length, take, drop, Some, None, Ok, Err, Option, Result, ◌==◌, nat_lt}
 use Rattle.std.specs.Borrow.{Bor}
-use Rattle.std.specs.List.{prefix_len, AllByRecursion as All}
+use Rattle.std.specs.List.{prefix_len, AllByRecursion}
 use Rattle.fault.specs.declared.causes.Cause.TheVariants.{NoEnd}
 use Rattle.fault.specs.declared.faults.Fault.{Fault}
 use Rattle.fault.specs.Faults.{refusal}
@@ -34,5 +34,5 @@ seen (Err f) = Err f
 -- The law of splitting: the command holds no end character, and joined with one and with the bytes not used it is
 -- the input. Nothing is refused but bytes without an end character.
 abbrev pub Cuts : List ℕ → Result (List ℕ × ℕ) Fault → Type 0
-Cuts bs (Ok p) = All (λ b. plain b ≡ true) p.0 × ((b : ℕ) × (plain b ≡ false) × (bs ≡ p.0 ++ b ∷ drop p.1 bs)) × (p.1 ≡ length p.0 + 1)
-Cuts bs (Err f) = All (λ b. plain b ≡ true) bs
+Cuts bs (Ok p) = AllByRecursion (λ b. plain b ≡ true) p.0 × ((b : ℕ) × (plain b ≡ false) × (bs ≡ p.0 ++ b ∷ drop p.1 bs)) × (p.1 ≡ length p.0 + 1)
+Cuts bs (Err f) = AllByRecursion (λ b. plain b ≡ true) bs

@@ -1,7 +1,7 @@
 -- How a number is written, and the law that the reader finds its exact value. Assumes nothing.
 use Rattle.std.specs.Prelude.{◌≡◌, ℕ, ◌*◌, ◌^◌, ◌<◌, ◌≤◌, Bool, true, false, ◌||◌, List, [], ◌∷◌, ◌++◌, length, ℤ, Some, None, fold, Option, ◌==◌}
 use Rattle.std.specs.Char.{is_ascii_digit}
-use Rattle.std.specs.List.{AllByRecursion as All}
+use Rattle.std.specs.List.{AllByRecursion}
 use Rattle.command.specs.Numbers.{more, sign, number_of}
 
 pub data Sign : Type 0 where
@@ -35,7 +35,7 @@ abbrev pub written : Writing → List ℕ
 written w = sign_bytes w.sign ++ (w.whole ++ (point_bytes w.decimals ++ power_bytes w.power))
 
 abbrev pub Digits : List ℕ → Type 0
-Digits ds = All (λ b. is_ascii_digit b ≡ true) ds
+Digits ds = AllByRecursion (λ b. is_ascii_digit b ≡ true) ds
 
 -- e or E, and one or two digits
 abbrev pub Power : Option (ℕ × List ℕ) → Type 0

@@ -1,7 +1,7 @@
 -- A command by its parts, and the law that blanks around them and the case of the initials do not matter. Assumes nothing.
 use Rattle.std.specs.Prelude.{◌≡◌, ℕ, ◌≤◌, true, false, List, [], ◌∷◌, ◌++◌, length, Ok, Err, Result}
 use Rattle.std.specs.Char.{to_ascii_uppercase}
-use Rattle.std.specs.List.{prefix_len, suffix_len, AllByRecursion as All}
+use Rattle.std.specs.List.{prefix_len, suffix_len, AllByRecursion}
 use Rattle.fault.specs.declared.causes.Cause.{Cause}
 use Rattle.fault.specs.declared.faults.Fault.{Fault}
 use Rattle.command.specs.declared.orders.Form.{Form}
@@ -35,7 +35,7 @@ spelled s =
 
 -- blanks that may stand there: bytes up to 20h, but not 11h or 13h
 abbrev pub Gap : List ℕ → Type 0
-Gap g = All (λ b. (blank b ≡ true) × (other 17 19 b ≡ true)) g
+Gap g = AllByRecursion (λ b. (blank b ≡ true) × (other 17 19 b ≡ true)) g
 
 -- a parameter begins with no question mark where none stands before it
 abbrev pub Unasked : Form → List ℕ → Type 0

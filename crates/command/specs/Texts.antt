@@ -1,7 +1,7 @@
 -- What a parameter's text is, for any bytes. Assumes nothing.
 use Rattle.std.specs.Prelude.{◌≡◌, ℕ, ◌-◌, ◌≤◌, Bool, true, cond, ◌&&◌, List, [], ◌∷◌, ◌++◌, length, take, drop, replicate, Some, None, Option, ◌==◌, nat_le, slice_index}
 use Rattle.std.specs.Char.{is_ascii_alphanumeric}
-use Rattle.std.specs.List.{prefix_len, AllByRecursion as All}
+use Rattle.std.specs.List.{prefix_len, AllByRecursion}
 use Rattle.std.specs.Str.{bytes_eq}
 use Rattle.command.specs.declared.texts.Text.{Text}
 
@@ -38,7 +38,7 @@ text_of t = cond (quoted t) (word_of (take (length t - 2) (drop 1 t))) None
 -- the bytes are one to seven letters or digits in double quotes, and the text keeps them
 abbrev pub Quotes : List ℕ → Text → Type 0
 Quotes t x =
-    (s : List ℕ) × All (λ b. is_ascii_alphanumeric b ≡ true) s × (1 ≤ length s) × (length s ≤ 7) × (t ≡ 34 ∷ (s ++ 34 ∷ [])) × (x ≡ word s)
+    (s : List ℕ) × AllByRecursion (λ b. is_ascii_alphanumeric b ≡ true) s × (1 ≤ length s) × (length s ≤ 7) × (t ≡ 34 ∷ (s ++ 34 ∷ [])) × (x ≡ word s)
 
 -- The law: a text is read exactly where the bytes have that form.
 abbrev pub ExactText : List ℕ → Type 0

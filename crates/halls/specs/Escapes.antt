@@ -1,7 +1,7 @@
 -- Bytes as printable text, in both directions.
 use Rattle.std.specs.Prelude.{◌≡◌, ℕ, ◌+◌, ◌-◌, ◌*◌, ◌/◌, ◌%◌, ◌<◌, Bool, cond, ◌&&◌, List, [], ◌∷◌, ◌++◌, Some, None, Option, ◌==◌, nat_le, nat_lt}
 use Rattle.std.specs.Option.{option_map}
-use Rattle.std.specs.List.{AllByRecursion as All}
+use Rattle.std.specs.List.{AllByRecursion}
 use Rattle.halls.specs.declared.spelling.Spelling.{Spelling}
 use Rattle.halls.specs.declared.spelling.Spelling.TheVariants.{Itself, Letter, Digits}
 use Rattle.halls.specs.declared.escapes.Wanted.{Wanted}
@@ -83,4 +83,4 @@ decoded w (b ∷ t) = onward (turn_of w b) (λ v. decoded v t)
 
 -- what is written for bytes is read as those bytes
 abbrev pub ReadsBack : Type 0
-ReadsBack = (bs : List ℕ) → All (λ b. b < 256) bs → decoded Any (escaped bs) ≡ Some bs
+ReadsBack = (bs : List ℕ) → AllByRecursion (λ b. b < 256) bs → decoded Any (escaped bs) ≡ Some bs

@@ -1,6 +1,6 @@
 -- The law of serving.
 use Rattle.std.proofs.Common.{◌≡◌, ℕ, suc, ◌+◌, ◌-◌, ◌<◌, Bool, true, false, cond, ltb, List, [], ◌∷◌, ◌++◌, length, drop, sym, refl, ap, ◌∙◌, subst, arith}
-use Rattle.std.specs.List.{prefix_len, AllByRecursion as All}
+use Rattle.std.specs.List.{prefix_len, AllByRecursion}
 use Rattle.std.proofs.lemmas.List.{drop-drop, length-append}
 use Rattle.std.proofs.lemmas.Bool.{ltb-true, ltb-false}
 use Rattle.command.specs.Cuts.{plain}
@@ -11,7 +11,7 @@ use Rattle.terminal.specs.Serves.{headed, cut, taken, served, answered, spent, w
 use Rattle.terminal.proofs.Turns.{why_open, why_short}
 
 abbrev Plain : List ℕ → Type 0
-Plain t = All (λ b. plain b ≡ true) t
+Plain t = AllByRecursion (λ b. plain b ≡ true) t
 
 -- ---- all the commands of a run are spelled in it, and no end character stands in what is left
 suc_more : (n : ℕ) → suc n + 1 ≡ suc (n + 1)

@@ -1,7 +1,7 @@
 -- What becomes of a byte run.
 use Rattle.std.specs.Prelude.{◌≡◌, ℕ, ◌+◌, ◌-◌, ◌<◌, ◌≤◌, true, false, cond, List, [], ◌∷◌, ◌++◌, length, drop, Ok, Err, Result, ◌==◌, ◌≢◌, nat_lt}
 use Rattle.std.specs.Borrow.{Bor}
-use Rattle.std.specs.List.{prefix_len, AllByRecursion as All}
+use Rattle.std.specs.List.{prefix_len, AllByRecursion}
 use Rattle.fault.specs.declared.faults.Fault.{Fault}
 use Rattle.command.specs.Cuts.{plain, cut_of}
 use Rattle.terminal.specs.declared.answers.Stop.{Stop}
@@ -69,7 +69,7 @@ report_of b run ts = record { used = spent ts; written = length (answered b ts);
 -- a run begins with these commands, each with no end character in it and one after it
 abbrev pub Spelled : List (List ℕ) → List ℕ → Type 0
 Spelled [] run = Unit {0}
-Spelled (t ∷ ts) run = All (λ b. plain b ≡ true) t × ((x : ℕ) × (plain x ≡ false) × (run ≡ t ++ x ∷ drop (length t + 1) run)) × Spelled ts (drop (length t + 1) run)
+Spelled (t ∷ ts) run = AllByRecursion (λ b. plain b ≡ true) t × ((x : ℕ) × (plain x ≡ false) × (run ≡ t ++ x ∷ drop (length t + 1) run)) × Spelled ts (drop (length t + 1) run)
 
 -- before each of these commands 1,088 bytes at least are left for answers
 abbrev pub Roomy : ℕ → Bus → List (List ℕ) → Type 0
@@ -79,8 +79,8 @@ Roomy room b (t ∷ ts) = (1088 ≤ room) × Roomy (room - length (reply b t).sa
 -- serving stops so, when this is left of the run and so much room for answers
 abbrev pub Stops : Stop → List ℕ → ℕ → Type 0
 Stops End left room = left ≡ []
-Stops NoEnd left room = (left ≢ []) × All (λ b. plain b ≡ true) left
-Stops ShortBuffer left room = (All (λ b. plain b ≡ true) left → ⊥) × (room < 1088)
+Stops NoEnd left room = (left ≢ []) × AllByRecursion (λ b. plain b ≡ true) left
+Stops ShortBuffer left room = (AllByRecursion (λ b. plain b ≡ true) left → ⊥) × (room < 1088)
 
 -- Serving obeys commands that stand in the run one after another, each with room enough, and stops at the run's end,
 -- or else where no end character follows, or else where the room is short.
