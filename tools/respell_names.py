@@ -76,6 +76,15 @@ def unaliased(text):
     return re.sub(r"(?<![\w'.-])All(?![\w'-])", "AllByRecursion", text)
 
 
+def by_bound(path, text):
+    """A member of a trait is cited in a clause by the parameter that has the bound, outside the trait itself."""
+    if os.sep + os.path.join("crates", "bank", "src") + os.sep in path:
+        return text
+    return "\n".join(
+        line if line.strip().startswith(("//", "ghost shows", "ghost use", "use ")) else re.sub(r"(?<![\w.])shows(?![\w'])", "B.shows", line)
+        for line in text.split("\n"))
+
+
 def masked(text):
     """A .rt file with comments, strings and characters blanked."""
     def blank(m):
@@ -116,6 +125,8 @@ def main():
             text = f.read()
         view = masked(text) if p.endswith(".rt") else re.sub(r'"(?:\\.|[^"\\\n])*"', lambda m: "\0" * len(m[0]), text)
         new = unaliased(turn(text, view, table, fields))
+        if p.endswith(".rt"):
+            new = by_bound(p, new)
         if new != text:
             count += 1
             with open(p, "w", encoding="utf-8") as f:
