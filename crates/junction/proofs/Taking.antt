@@ -1,13 +1,12 @@
 -- What taking at a port of a box answers and leaves.
-use Rattle.std.proofs.Common.{◌≡◌, ℕ, zero, suc, ◌+◌, ◌<◌, ◌≤◌, Bool, true, false, cond, ◌&&◌, eqb, leb, ◌≢◌, List, [], ◌∷◌, length, Some, Err, sym, refl, ap, ◌∙◌, subst, ⊎_elim, arith}
+use Rattle.std.proofs.Common.{◌≡◌, ℕ, zero, suc, ◌+◌, ◌<◌, ◌≤◌, Bool, true, false, cond, ◌&&◌, eqb, leb, ◌≢◌, List, [], ◌∷◌, length, Some, Err, Option, sym, refl, ap, ◌∙◌, subst, ⊎_elim, arith}
 use Rattle.std.specs.Option.{ok_or}
-use Rattle.std.proofs.lemmas.Bool.{cases_eq, lt-ltb, le-leb, lt-leb, eq-eqb, ne_eqb, and_right}
+use Rattle.std.proofs.lemmas.Bool.{cases_eq, cases_Bool, leb-true, lt-ltb, le-leb, lt-leb, eq-eqb, ne_eqb, and_right}
 use Rattle.fault.specs.declared.faults.Fault.{Fault}
 use Rattle.fault.specs.declared.causes.Cause.TheVariants.{TooFewReadings}
 use Rattle.fault.specs.Faults.{refusal}
-use Rattle.bank.specs.declared.counts.Drawn.{Drawn}
 use Rattle.bank.specs.declared.reading.Reading.{Reading}
-use Rattle.bank.specs.Ports.{Port, Sound, none, rest, popped, front, drawing, first, first_at, rest_at}
+use Rattle.bank.specs.Ports.{Port, Sound, none, rest, popped, front, first, first_at, rest_at}
 use Rattle.bank.proofs.Empty.{empty_first}
 use Rattle.junction.specs.declared.feeds.Feeds.{Feeds}
 use Rattle.junction.specs.Feeding.{fed}
@@ -102,6 +101,14 @@ module _ (fs : Feeds) (m : ℕ → Port) (p : ℕ) where
   pub dry_waits : (x : ℕ) → dry_from (fed fs) m p 0 32 ≡ Some x → length (boxed fs m p).waiting ≡ 0
   dry_waits x e = cond_empty (leb (gather (fed fs) m p 32).gauges 8) (gather (fed fs) m p 32) (some_dry (fed fs) m p 32 0 32 x (omega arith) e).1
 
+-- a port that counts a gauge is fed by eight at most
+pub counted_few : (fs : Feeds) (m : ℕ → Port) (p : ℕ) → (boxed fs m p).gauges ≢ 0 → (gather (fed fs) m p 32).gauges ≤ 8
+counted_few fs m p ne =
+    ⊎_elim
+    (λ (e : leb (gather (fed fs) m p 32).gauges 8 ≡ true). leb-true _ 8 e)
+    (λ (e : leb (gather (fed fs) m p 32).gauges 8 ≡ false). absurd (ne (ap (λ (b : Bool). (cond b (gather (fed fs) m p 32) none).gauges) e)))
+    (cases_Bool (leb (gather (fed fs) m p 32).gauges 8))
+
 -- ---- over the values that the code has
 or_first : (p : ℕ) (xs : List Reading) → ok_or (front xs) (refusal TooFewReadings p) ≡ first p xs
 or_first p [] = refl
@@ -111,7 +118,10 @@ module _ (fs : Feeds) (m : ℕ → Port) (p : ℕ) (h : p < 32) (x : Fault) (is 
   pub refused_first : length (boxed fs m p).waiting ≡ 0 → Err x ≡ first_at (boxed fs m) p
   refused_first e = ap Err is ∙ empty_first (boxed fs m) p e (omega arith)
 
-  pub drawn_first : (r : Drawn) → r ≡ drawing (boxed fs m p) → ok_or r.reading x ≡ first_at (boxed fs m) p
-  drawn_first r e =
+  pub drawn_first : (r : Option Reading) → (gather (fed fs) m p 32).gauges ≤ 8 → r ≡ front (gather (fed fs) m p 32).waiting → ok_or r x ≡ first_at (boxed fs m) p
+  drawn_first r few e =
       let a = le-leb p 31 (omega arith) in
-      (λ i. ok_or (e i).reading (is i)) ∙ or_first p (boxed fs m p).waiting ∙ sym (rw a)
+      (λ i. ok_or (e i) (is i))
+      ∙ ap (λ (z : Port). ok_or (front z.waiting) (refusal TooFewReadings p)) (sym (boxed_few fs m p few))
+      ∙ or_first p (boxed fs m p).waiting
+      ∙ sym (rw a)

@@ -1,6 +1,6 @@
 // A port of a box worked out from the ports of the bank below that feed it.
-ghost use Rattle.std.specs.Prelude.{◌≡◌, ◌+◌, ◌<◌, if◌then◌else◌, nat_eq};
-ghost use Rattle.bank.specs.Ports.{counts, drawing, rest_at};
+ghost use Rattle.std.specs.Prelude.{◌≡◌, ◌+◌, ◌<◌, ◌≤◌, None, if◌then◌else◌, nat_eq};
+ghost use Rattle.bank.specs.Ports.{counts, drawing, front, rest_at};
 ghost use Rattle.junction.specs.Feeding.{fed};
 ghost use Rattle.junction.specs.Gather.{part, gather, dry_from, drawn};
 ghost use Rattle.junction.specs.Counting.{tallied, dried, both_of, drawn_together, Carried};
@@ -127,7 +127,7 @@ fn both(one: Option<Reading>, other: Option<Reading>) -> Option<Reading>
 }
 
 // What two ports give as one, where a port without a gauge counts for nothing.
-fn merge(sum: Drawn, one: Drawn) -> Drawn
+fn merge_draws(sum: Drawn, one: Drawn) -> Drawn
     requires few { sum.gauges + one.gauges < 65536 }
     requires light { (Carried sum.reading) × (Carried one.reading) }
     ensures { result ≡ drawn_together sum one }
@@ -168,7 +168,17 @@ pub fn draw_fed<B: GaugeBank>(below: &mut B, feeds: &Feeds, port: u8) -> Drawn
     let mut sum = UNDRAWN;
     for q in 0..PORTS {
         let one = draw_part(below, feeds, port, q);
-        sum = merge(sum, one);
+        sum = merge_draws(sum, one);
     }
     sum
+}
+
+// Takes a reading from each port that feeds a port, none of which is dry, and answers them as one.
+pub fn draw<B: GaugeBank>(below: &mut B, feeds: &Feeds, port: u8) -> Option<Reading>
+    requires few { (gather (fed feeds.now) (B.shows below.old) port 32).gauges ≤ 8 }
+    requires wet { dry_from (fed feeds.now) (B.shows below.old) port 0 32 ≡ None }
+    ensures answer { result ≡ front (gather (fed feeds.now) (B.shows below.old) port 32).waiting }
+    ensures after { B.shows below.new ≡ drawn (fed feeds.now) (B.shows below.old) port 32 }
+{
+    draw_fed(below, feeds, port).reading
 }

@@ -1,5 +1,5 @@
 // A junction box: it stands on any bank and is a bank again.
-ghost use Rattle.std.specs.Prelude.{◌≡◌, ◌<◌};
+ghost use Rattle.std.specs.Prelude.{◌≡◌, ◌<◌, length};
 ghost use Rattle.bank.specs.Ports.{counts, drawing, first_at, drawn_at, rest_at};
 ghost use Rattle.junction.specs.Feeding.{fed, own};
 ghost use Rattle.junction.specs.Gather.{boxed, drawn, left_below, below_after, below_drawn};
@@ -7,7 +7,7 @@ ghost use Rattle.junction.specs.Limits.{boxed_sound};
 ghost use Rattle.junction.specs.Joins.{joining, rejoined};
 
 use crate::feeds::Feeds;
-use crate::gathering::{UNCOUNTED, UNDRAWN, draw_fed, dry_port, fed_counts, fed_gauges};
+use crate::gathering::{UNCOUNTED, UNDRAWN, draw, draw_fed, dry_port, fed_counts, fed_gauges};
 use bank::{Counts, Drawn, GaugeBank, Reading, checked_port};
 use fault::{Cause, Fault};
 
@@ -64,6 +64,13 @@ impl<B: GaugeBank> JunctionBox<B> {
         if sum.gauges > MOST { UNCOUNTED } else { sum }
     }
 
+    // How many readings wait at a port: as many as in the shortest of the ports that feed it.
+    fn waiting_count(&self, port: u8) -> u16
+        ensures { result ≡ length (boxed self.now.feeds (B.shows self.now.below) port).waiting }
+    {
+        self.both_counts(port).waiting
+    }
+
     // Draws at each port that feeds this one, as one.
     fn draw_joined(&mut self, port: u8) -> Drawn
         requires { port < 32 }
@@ -90,7 +97,7 @@ impl<B: GaugeBank> JunctionBox<B> {
         }
         match dry_port(&self.below, &self.feeds, port) {
             Some(_) => Err(empty),
-            None => self.draw_joined(port).reading.ok_or(empty),
+            None => draw(&mut self.below, &self.feeds, port).ok_or(empty),
         }
     }
 }
@@ -107,7 +114,7 @@ impl<B: GaugeBank> GaugeBank for JunctionBox<B> {
 
     fn waiting(&self, port: u8) -> Result<u16, Fault> {
         checked_port(port)?;
-        Ok(self.both_counts(port).waiting)
+        Ok(self.waiting_count(port))
     }
 
     fn take(&mut self, port: u8) -> Result<Reading, Fault>

@@ -11,8 +11,8 @@ pub loop-q-init : goal.loop-q-init
 unfolding gather
 loop-q-init g c = (refl, drawn_none (fed c.args.feeds.now) (g.B.GaugeBank.shows c.args.below.now) c.args.port, omega arith)
 
-pub merge-sum-requires : goal.merge-sum-requires
-merge-sum-requires g c =
+pub merge_draws-sum-requires : goal.merge_draws-sum-requires
+merge_draws-sum-requires g c =
     let f = fed c.args.feeds.now in
     let m = g.B.GaugeBank.shows c.args.below.now in
     let p = c.args.port in
@@ -32,7 +32,7 @@ loop-q-preserved g c =
     let n = c.loop-q.q in
     let ok = g.B.GaugeBank.sound c.args.below.now in
     let one = c.draw_part-one.ensures.answer ∙ ap drawing (part_drawn f m p _ n c.loop-q.invariant.1) in (
-      c.merge-sum.ensures ∙ drawing_next f m p ok n c.loop-q-test.true _ _ c.loop-q.invariant.0 one,
+      c.merge_draws-sum.ensures ∙ drawing_next f m p ok n c.loop-q-test.true _ _ c.loop-q.invariant.0 one,
       drawn_next f m p _ _ n c.loop-q-test.true c.loop-q.invariant.1 c.draw_part-one.ensures.after,
-      omega (arith, c.loop-q.invariant.2, ap (λ (d : Drawn). d.gauges) c.merge-sum.ensures, ap (λ (d : Drawn). d.gauges) one, part_few f m p ok n),
+      omega (arith, c.loop-q.invariant.2, ap (λ (d : Drawn). d.gauges) c.merge_draws-sum.ensures, ap (λ (d : Drawn). d.gauges) one, part_few f m p ok n),
     )

@@ -1,8 +1,8 @@
-use Rattle.std.proofs.Common.{refl, sym, ◌∙◌}
+use Rattle.std.proofs.Common.{refl, sym, ◌∙◌, arith}
 use Rattle.bank.proofs.Empty.{empty_rest}
 use Rattle.std.proofs.lemmas.Bool.{eq-eqb, ne_eqb}
 use Rattle.junction.specs.Gather.{boxed}
-use Rattle.junction.proofs.Taking.{bare_waits, dry_waits, refused_first, drawn_first}
+use Rattle.junction.proofs.Taking.{bare_waits, dry_waits, refused_first, counted_few, drawn_first, box_drawn}
 use Rattle.junction.proofs.junction_box.JunctionBox.take_joined.Goals as goal
 
 pub returns-then-gauge_count-eq0 : goal.returns-then-gauge_count-eq0
@@ -36,10 +36,20 @@ returns-in-None g c =
     let s = c.args.self.now in
     let m = g.B.GaugeBank.shows s.below in
     let p = c.args.port in
-    let d = c.draw_joined.ensures in
+    let few = counted_few s.feeds m p (λ d. c.if-gauge_count-eq0.false (c.gauge_count.ensures ∙ d)) in
     record {
-      answer = c.ok_or.ensures.value ∙ drawn_first s.feeds m p c.requires _ c.at-empty.ensures _ d.answer;
-      after = d.after;
-      below = let b = ne_eqb (boxed s.feeds m p).gauges 0 (λ d. c.if-gauge_count-eq0.false (c.gauge_count.ensures ∙ d)) in let e = sym c.dry_port.ensures ∙ c.in-None.is in rw (b, e) d.below;
-      feeds = d.feeds;
+      answer = c.ok_or.ensures.value ∙ drawn_first s.feeds m p c.requires _ c.at-empty.ensures _ few c.draw.ensures.answer;
+      after = box_drawn s.feeds m _ p (omega (arith, c.requires)) c.draw.ensures.after;
+      below = let b = ne_eqb (boxed s.feeds m p).gauges 0 (λ d. c.if-gauge_count-eq0.false (c.gauge_count.ensures ∙ d)) in let d = sym c.dry_port.ensures ∙ c.in-None.is in rw (b, d) c.draw.ensures.after;
+      feeds = refl;
+    }
+
+pub draw-requires : goal.draw-requires
+draw-requires g c =
+    let s = c.args.self.now in
+    let m = g.B.GaugeBank.shows s.below in
+    let p = c.args.port in
+    record {
+      few = counted_few s.feeds m p (λ d. c.if-gauge_count-eq0.false (c.gauge_count.ensures ∙ d));
+      wet = sym c.dry_port.ensures ∙ c.in-None.is;
     }
