@@ -1,4 +1,4 @@
--- What a port of a bank is, its limits, and what the three bank calls answer and leave.
+-- What a port of a bank is, its limits, and what the bank calls answer and leave.
 use Rattle.std.specs.Prelude.{◌≡◌, ℕ, ◌*◌, ◌≤◌, cond, ◌&&◌, List, [], ◌∷◌, length, Some, None, Ok, Err, Option, Result, ◌==◌, nat_le, unsigned_abs}
 use Rattle.fault.specs.declared.faults.Fault.{Fault}
 use Rattle.fault.specs.declared.causes.Cause.TheVariants.{TooFewReadings, PortRange}

@@ -1,4 +1,4 @@
-// What a bank of gauges means, and its three calls.
+// What a bank of gauges means, and its calls.
 ghost use Rattle.std.specs.Prelude.{◌≡◌, ℕ, Ok};
 ghost use Rattle.bank.specs.Ports.{Port, Sound, ranged, gauges_at, waiting_at, counts_at, first_at, drawn_at, rest_at};
 

@@ -2,7 +2,7 @@
 ghost use Rattle.std.specs.Prelude.{◌≡◌, ◌+◌, ◌<◌, ◌≤◌, None, if◌then◌else◌, nat_eq};
 ghost use Rattle.bank.specs.Ports.{counts, drawing, front, rest_at};
 ghost use Rattle.junction.specs.Feeding.{fed};
-ghost use Rattle.junction.specs.Gather.{part, gather, dry_from, drawn};
+ghost use Rattle.junction.specs.Gather.{part, gather, dry_from, merged, drawn};
 ghost use Rattle.junction.specs.Counting.{tallied, dried, both_of, drawn_together, Carried};
 
 use crate::feeds::{Feeds, PORTS};
@@ -111,18 +111,29 @@ pub fn dry_port<B: GaugeBank>(below: &B, feeds: &Feeds, port: u8) -> Option<u8>
     }
 }
 
-// Two readings as one: the loads added exactly, the marks joined; none where either is wanting.
+// Two readings as one: the loads added exactly, the marks joined; a missing one counts for nothing.
+fn merge(sum: Option<Reading>, one: Option<Reading>) -> Option<Reading>
+    requires { (Carried sum) × (Carried one) }
+    ensures { result ≡ merged sum one }
+{
+    match (sum, one) {
+        (None, one) => one,
+        (Some(x), None) => Some(x),
+        (Some(x), Some(y)) => Some(Reading {
+            load: x.load + y.load,
+            mark: x.mark.joined(y.mark),
+        }),
+    }
+}
+
+// The same, but none where either is wanting.
 fn both(one: Option<Reading>, other: Option<Reading>) -> Option<Reading>
     requires { (Carried one) × (Carried other) }
     ensures { result ≡ both_of one other }
 {
     match (one, other) {
-        (Some(x), Some(y)) => Some(Reading {
-            load: x.load + y.load,
-            mark: x.mark.joined(y.mark),
-        }),
-        (Some(_), None) => None,
-        (None, _) => None,
+        (Some(_), Some(_)) => merge(one, other),
+        _ => None,
     }
 }
 
