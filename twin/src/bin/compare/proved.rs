@@ -11,7 +11,7 @@ pub struct Proved {
 impl Proved {
     /// The program named by HALL, or the one built beside the twin.
     pub fn find() -> Option<Proved> {
-        let beside = concat!(env!("CARGO_MANIFEST_DIR"), "/../target/bin/hall");
+        let beside = concat!(env!("CARGO_MANIFEST_DIR"), "/../crates/hall/out/hall");
         let path = std::env::var_os("HALL").map_or_else(|| PathBuf::from(beside), PathBuf::from);
         path.is_file().then_some(Proved { path })
     }
