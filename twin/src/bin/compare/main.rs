@@ -35,7 +35,7 @@ fn main() -> ExitCode {
     let seed = number(arguments.next(), DEFAULT_SEED);
     let scripts = number(arguments.next(), DEFAULT_SCRIPTS as u64) as usize;
     let Some(proved) = Proved::find() else {
-        println!("the proved program is not there: run `rt run hall` first");
+        println!("the proved program is not there: run `rt run` in crates/hall first");
         println!("0 passed, 1 failed");
         return ExitCode::FAILURE;
     };
