@@ -1,19 +1,13 @@
 -- The text of a fault memory.
-use Rattle.std.specs.Prelude.{◌≡◌, ℕ, ◌+◌, ◌/◌, ◌%◌, ◌<◌, List, [], ◌∷◌, ◌++◌, Some, None, codes, Option}
+use Rattle.std.specs.Prelude.{◌≡◌, ℕ, ◌<◌, List, ◌∷◌, ◌++◌, Some, None, codes, Option}
+use Rattle.figures.specs.Figures.{digits}
 use Rattle.fault.specs.declared.faults.Fault.{Fault}
 use Rattle.fault.specs.Causes.{described, letter_of}
-
--- the decimal digit of n at a place value, as a character
-abbrev pub digit_at : ℕ → ℕ → ℕ
-digit_at n place = 48 + n / place % 10
-
-abbrev pub three_digits : ℕ → List ℕ
-three_digits n = digit_at n 100 ∷ digit_at n 10 ∷ digit_at n 1 ∷ []
 
 -- number, layer and place parted by commas (44), or `000,-,000` for no fault
 abbrev pub memory_text : Option Fault → List ℕ
 memory_text None = codes "000,-,000"
-memory_text (Some f) = three_digits (described f.cause).number ++ (44 ∷ letter_of (described f.cause).layer ∷ 44 ∷ three_digits f.place)
+memory_text (Some f) = digits 3 (described f.cause).number ++ (44 ∷ letter_of (described f.cause).layer ∷ 44 ∷ digits 3 f.place)
 
 -- the place has at most three digits, as that of every remembered fault has
 abbrev pub Short : Option Fault → Type 0

@@ -6,7 +6,7 @@ ghost use Rattle.fault.specs.Faults.{refusal};
 use crate::Fault;
 
 // Where a refusal arose.
-#[derive(Clone, Copy, Debug, PartialEq)]
+#[derive(Clone, Copy, Debug, PartialEq, Eq)]
 pub enum Layer {
     Line,
     Command,
@@ -29,7 +29,7 @@ impl Layer {
 }
 
 // Why a call refuses; the discriminant is the cause's number on the bus.
-#[derive(Clone, Copy, Debug, PartialEq)]
+#[derive(Clone, Copy, Debug, PartialEq, Eq)]
 pub enum Cause {
     NoEnd = 1,
     ShortBuffer = 2,

@@ -1,9 +1,9 @@
 -- One write after another into a buffer. Assumes nothing.
-use Rattle.std.proofs.Common.{◌≡◌, ℕ, suc, ◌+◌, ◌-◌, ◌*◌, ◌<◌, ◌≤◌, leb, List, [], ◌∷◌, ◌++◌, length, get_or, take, drop, sym, refl, ap, ◌∙◌, subst, suc-mul, zero-mul, add-one, arith}
+use Rattle.std.proofs.Common.{◌≡◌, ℕ, suc, ◌+◌, ◌-◌, ◌*◌, ◌<◌, ◌≤◌, leb, List, [], ◌∷◌, ◌++◌, length, get_or, take, drop, sym, ap, ◌∙◌, subst, suc-mul, zero-mul, add-one, arith}
 use borrow.Rule.Slice.PartMut.{put_mid}
 use Rattle.std.specs.List.{flat_map}
-use Rattle.std.proofs.lemmas.Nat.{mul-le}
 use Rattle.std.proofs.lemmas.List.{append-nil, append_assoc, length-append, length-drop, take_at, drop_at, drop-drop, drop_all, take_rest, take_more, take_all, flat_map_more}
+use Rattle.std.proofs.lemmas.Nat.{mul-le}
 use Rattle.std.proofs.lemmas.Bool.{cond-true, cond-false, le-leb, lt-leb}
 use Rattle.value.specs.Written.{granted, onto, written}
 
@@ -49,39 +49,34 @@ more before front tail out last n k h e room c w =
       count = omega (arith, c ∙ ap length all);
     }
 
--- one value and its end
-pub ended : (before value end out last : List ℕ) (n k wide : ℕ) → length value ≡ wide → wide + length end ≤ length before → n ≡ length (granted before value) → out ≡ written before value → k ≡ length (granted (take (length out - n) (drop n out)) end) → last ≡ written (take (length out - n) (drop n out)) end → More before value end out last n k
-ended before value end out last n k wide long room e w =
-    let all = granted_all before value (omega arith) in
-    more before value end out last n k (w ∙ ap (λ a. onto a before) all) (e ∙ ap length all) (omega arith)
-
--- one more of w bytes has room
-pub room : (i len w total : ℕ) → i < len → len * w ≤ total → i * w + w ≤ total
-room i len w total h r = omega (arith, mul-le (suc i) w len w h (omega arith), suc-mul i w)
-
 -- the first i of the values vs are written, in n bytes, each in so many
 pub record Block {X : Type 0} (f : X → List ℕ) (wide : ℕ) (vs : List X) (before : List ℕ) (i n : ℕ) (out : List ℕ) : Type 0 where
   pub holds : Holds before (flat_map f (take i vs)) out
   pub count : n ≡ length (flat_map f (take i vs))
   pub size : n ≡ i * wide
 
-module _ {X : Type 0} (f : X → List ℕ) (wide : ℕ) (long : (v : X) → length (f v) ≡ wide) where
-  pub block_none : (vs : List X) (before : List ℕ) → Block f wide vs before 0 0 before
-  block_none vs before = record { holds = refl; count = refl; size = sym (zero-mul wide) }
+pub block_all : {X : Type 0} (f : X → List ℕ) (wide : ℕ) (vs : List X) (before : List ℕ) (i n : ℕ) (out : List ℕ) → length vs ≤ i → Block f wide vs before i n out → (n ≡ length (flat_map f vs)) × Holds before (flat_map f vs) out
+block_all f wide vs before i n out h b = subst (λ l. (n ≡ length (flat_map f l)) × Holds before (flat_map f l) out) (take_all i vs h) (b.count, b.holds)
 
-  pub block_more : (vs : List X) (before : List ℕ) (i n k : ℕ) (out last : List ℕ) (d : X) → i < length vs → k ≡ wide → Block f wide vs before i n out → last ≡ onto (f (get_or vs i d)) (take (length out - n) (drop n out)) → Block f wide vs before (i + 1) (n + k) (put_mid n (length out - n) out last)
-  block_more vs before i n k out last d h e b w =
-      let v = get_or vs i d in
-      let grown = flat_map_more f [] (take i vs) v ∙ ap (flat_map f) (sym (take_more vs i d h)) in
-      record {
-        holds = subst (λ answer. Holds before answer (put_mid n (length out - n) out last)) grown (holds_more before (flat_map f (take i vs)) (f v) out last n b.holds b.count w);
-        count = omega (arith, ap length (sym grown) ∙ length-append (flat_map f (take i vs)) (f v), long v, b.count);
-        size = omega (arith, suc-mul i wide, ap (λ m. m * wide) (add-one i), b.size);
-      }
+-- one value more, and its end
+pub block_more : {X : Type 0} (value : X → List ℕ) (end : List ℕ) (wide : ℕ) → ((v : X) → length (value v) ≡ wide) → (vs : List X) (before : List ℕ) (i n k j : ℕ) (out first last : List ℕ) (d : X) → i < length vs → length vs * (wide + length end) ≤ length before → Block (λ v. value v ++ end) (wide + length end) vs before i n out → k ≡ length (granted (take (length out - n) (drop n out)) (value (get_or vs i d))) → first ≡ written (take (length out - n) (drop n out)) (value (get_or vs i d)) → (let mid = put_mid n (length out - n) out first in j ≡ length (granted (take (length mid - (n + k)) (drop (n + k) mid)) end)) → (let mid = put_mid n (length out - n) out first in last ≡ written (take (length mid - (n + k)) (drop (n + k) mid)) end) → (let mid = put_mid n (length out - n) out first in Block (λ v. value v ++ end) (wide + length end) vs before (i + 1) (n + k + j) (put_mid (n + k) (length mid - (n + k)) mid last))
+block_more {X} value end wide long vs before i n k j out first last d h room b c w c' w' =
+    let f = λ (v : X). value v ++ end in
+    let v = get_or vs i d in
+    let all = wide + length end in
+    let front = flat_map f (take i vs) in
+    let mid = put_mid n (length out - n) out first in
+    let size = length-append front (value v) in
+    let fits : n + all ≤ length before = omega (arith, b.size, mul-le (suc i) all (length vs) all h (omega arith), suc-mul i all) in
+    let one = more before front (value v) out first n k b.holds b.count (omega (arith, b.count, long v)) c w in
+    let both = more before (front ++ value v) end mid last (n + k) j one.holds (one.count ∙ sym size) (omega (arith, size, b.count, long v)) c' w' in
+    let grown = append_assoc front (value v) end ∙ flat_map_more f [] (take i vs) v ∙ ap (flat_map f) (sym (take_more vs i d h)) in
+    record {
+      holds = subst (λ answer. Holds before answer (put_mid (n + k) (length mid - (n + k)) mid last)) grown both.holds;
+      count = both.count ∙ sym (length-append (front ++ value v) end) ∙ ap length grown;
+      size = omega (arith, both.count, size, long v, b.count, b.size, suc-mul i all, ap (λ m. m * all) (add-one i));
+    }
 
-  pub block_all : (vs : List X) (before : List ℕ) (i n : ℕ) (out : List ℕ) → length vs ≤ i → Block f wide vs before i n out → (n ≡ length (flat_map f vs)) × Holds before (flat_map f vs) out
-  block_all vs before i n out h b = subst (λ l. (n ≡ length (flat_map f l)) × Holds before (flat_map f l) out) (take_all i vs h) (b.count, b.holds)
-
-  pub length_joined : (vs : List X) → length (flat_map f vs) ≡ length vs * wide
-  length_joined [] = sym (zero-mul wide)
-  length_joined (v ∷ vs) = omega (arith, length-append (f v) (flat_map f vs), long v, length_joined vs, suc-mul (length vs) wide)
+pub length_joined : {X : Type 0} (f : X → List ℕ) (wide : ℕ) → ((v : X) → length (f v) ≡ wide) → (vs : List X) → length (flat_map f vs) ≡ length vs * wide
+length_joined f wide long [] = sym (zero-mul wide)
+length_joined f wide long (v ∷ vs) = omega (arith, length-append (f v) (flat_map f vs), long v, length_joined f wide long vs, suc-mul (length vs) wide)

@@ -4,4 +4,3 @@ pub mod Numbers
 pub mod Products
 pub mod Quotient
 pub mod Sizes
-mod Turned

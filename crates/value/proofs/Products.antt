@@ -1,27 +1,16 @@
 -- Products of signed numbers, and the step taken out of a rounded quotient. Assumes nothing.
-use Rattle.std.proofs.Common.{◌≡◌, ℕ, zero, suc, ◌-◌, ◌*◌, ◌^◌, ◌<◌, ◌≤◌, ℤ, pos, negsuc, ◌-ℤ◌, ◌*ℤ◌, neg_ℤ, nat_abs, ◌<ℤ◌, sym, refl, ap, ◌∙◌, subst, mul_assoc, mul_comm, arith, w64, SFits}
-use lib.Signed.{mag}
-use mir.Syntax.{w128}
+use Rattle.std.proofs.Common.{◌≡◌, ℕ, suc, ◌*◌, ◌^◌, ◌<◌, ◌≤◌, ℤ, pos, negsuc, ◌-ℤ◌, ◌*ℤ◌, neg_ℤ, nat_abs, ◌<ℤ◌, sym, refl, ap, ◌∙◌, subst, mul_assoc, mul_comm, arith, w64, SFits}
 use Rattle.std.proofs.lemmas.Int.{ints}
 use Rattle.std.proofs.lemmas.Nat.{mul-le, mul-lt}
 use Rattle.value.specs.Rounding.{near, nearest}
 use Rattle.value.specs.Scaled.{scaled, in_digits, Shown}
-use Rattle.value.proofs.Quotient.{abs_neg, below, near_law, near_le, nearest_le}
+use Rattle.value.proofs.Quotient.{abs_neg, below, near_law, near_le, nearest_le, neg_fits}
 
 pub abs_times : (x y : ℤ) → nat_abs (x *ℤ y) ≡ nat_abs x * nat_abs y
 abs_times (pos m) (pos n) = refl
 abs_times (pos m) (negsuc n) = abs_neg (m * suc n)
 abs_times (negsuc m) (pos n) = abs_neg (suc m * n)
 abs_times (negsuc m) (negsuc n) = refl
-
-mag_le : (z : ℤ) → mag z ≤ nat_abs z
-mag_le (pos n) = omega arith
-mag_le (negsuc n) = omega arith
-
--- a product that fits 128 bits
-pub times_fits : (x : ℤ) (by : ℕ) → nat_abs x ≤ 2 ^ 95 → by < 2 ^ 32 → SFits w128 (x *ℤ pos by)
-times_fits x by h k =
-    record { sfits = omega (arith, mag_le (x *ℤ pos by), abs_times x (pos by), mul-le (nat_abs x) by (2 ^ 95) (2 ^ 32 - 1) h (omega arith)) }
 
 -- the step, taken out of the divisor
 step_out : (q : ℤ) (s t : ℕ) → q *ℤ pos (s * t) ≡ (q *ℤ pos t) *ℤ pos s
@@ -49,10 +38,6 @@ steps_small num n den h k =
     omega (arith, nearest_le (num *ℤ pos n) den, abs_times num (pos n), mul-le (nat_abs num) n (2 ^ 63) (2 ^ 32) h (omega arith))
 
 -- a load of 64 bits in whole digits
-neg_fits : (k n : ℕ) → k ≤ suc n → mag (neg_ℤ (pos k)) ≤ n
-neg_fits zero n h = omega arith
-neg_fits (suc k) n h = omega arith
-
 pub digits_fit : (load : ℤ) → SFits w64 load → SFits w64 (in_digits load)
 unfolding in_digits nearest
 digits_fit (pos n) f = record { sfits = omega (arith, f.sfits, near_le n 16000) }

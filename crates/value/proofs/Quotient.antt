@@ -152,7 +152,7 @@ one_less (negsuc n) (pos d) p s h =
 one_less (pos n) (negsuc d) p s h = absurd p.lt
 one_less (negsuc n) (negsuc d) p s h = absurd p.lt
 
-neg_fits : (k n : ℕ) → k ≤ suc n → mag (neg_ℤ (pos k)) ≤ n
+pub neg_fits : (k n : ℕ) → k ≤ suc n → mag (neg_ℤ (pos k)) ≤ n
 neg_fits zero n h = omega arith
 neg_fits (suc k) n h = omega arith
 

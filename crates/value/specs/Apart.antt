@@ -1,5 +1,5 @@
 -- From bytes that tell the indicated values apart to the law of a format. Assumes nothing.
-use Rattle.std.specs.Prelude.{◌≡◌, ℕ, suc, ◌*◌, ◌^◌, ◌<◌, ◌≤◌, true, false, cond, ◌&&◌, List, [], ◌∷◌, ◌++◌, reverse, ℤ, pos, negsuc, ◌≤ℤ◌, ◌<ℤ◌, int_lt, nat_le, unsigned_abs}
+use Rattle.std.specs.Prelude.{◌≡◌, ℕ, suc, ◌*◌, ◌^◌, ◌<◌, ◌≤◌, Bool, true, false, cond, ◌&&◌, List, [], ◌∷◌, ◌++◌, reverse, ℤ, pos, negsuc, ◌≤ℤ◌, ◌<ℤ◌, int_lt, nat_le, unsigned_abs}
 use Rattle.std.proofs.Common.{sym, ap, subst, ◌∙◌, ⊎_elim, arith}
 use Rattle.std.specs.Int.Signed.{le_z_yes, mag}
 use Rattle.std.proofs.lemmas.List.{append_cancel_right, reverse-reverse}
@@ -7,7 +7,7 @@ use Rattle.std.proofs.lemmas.Int.{ints}
 use Rattle.std.proofs.lemmas.Bool.{and_parts, cases_Bool, cond-true, cond-false}
 use Rattle.value.specs.Figures.{complement, digits, signed}
 use Rattle.value.specs.Fitting.{fits, indicated, Apart}
-use Rattle.value.specs.Formats.{reversed, three_bytes, three_bytes_status, two_bytes, decimal, decimal_status, three_byte_limits, two_byte_limits, decimal_limits}
+use Rattle.value.specs.Formats.{reversed, three_bytes_and, three_bytes, three_bytes_status, two_bytes, decimal, decimal_status, three_byte_limits, two_byte_limits, decimal_limits}
 use Rattle.value.specs.declared.limits.Limits.{Limits}
 use Rattle.value.specs.Same.{complement_apart, signed_apart}
 
@@ -96,11 +96,14 @@ reversed_apart l f apart nominal a s v w h e =
     apart nominal a s v w h (sym (reverse-reverse x) ∙ ap reverse e ∙ reverse-reverse y)
 
 -- each format
+pub three_bytes_and_apart : (shown : Bool) → Apart three_byte_limits (three_bytes_and shown)
+three_bytes_and_apart shown = bytes_apart 3 8388607 4294967295 (λ a s. cond shown s 0 ∷ []) (omega arith)
+
 pub three_bytes_apart : Apart three_byte_limits three_bytes
-three_bytes_apart = bytes_apart 3 8388607 4294967295 (λ a s. 0 ∷ []) (omega arith)
+three_bytes_apart = three_bytes_and_apart false
 
 pub three_bytes_status_apart : Apart three_byte_limits three_bytes_status
-three_bytes_status_apart = bytes_apart 3 8388607 4294967295 (λ a s. s ∷ []) (omega arith)
+three_bytes_status_apart = three_bytes_and_apart true
 
 pub two_bytes_apart : Apart two_byte_limits two_bytes
 two_bytes_apart = bytes_apart 2 32767 30000 (λ a s. []) (omega arith)

@@ -1,7 +1,11 @@
 -- The bytes of each format, from the address, the status and the indicated value. Assumes nothing.
-use Rattle.std.specs.Prelude.{ℕ, List, [], ◌∷◌, ◌++◌, reverse, ℤ, pos, negsuc}
+use Rattle.std.specs.Prelude.{ℕ, Bool, cond, List, [], ◌∷◌, ◌++◌, reverse, ℤ, pos, negsuc}
 use Rattle.value.specs.Figures.{complement, digits, signed}
 use Rattle.value.specs.declared.limits.Limits.{Limits}
+
+-- three bytes, and the status or else a zero
+abbrev pub three_bytes_and : Bool → ℕ → ℕ → ℤ → List ℕ
+three_bytes_and shown address status v = complement 3 v ++ (cond shown status 0 ∷ [])
 
 -- three bytes and a zero
 abbrev pub three_bytes : ℕ → ℕ → ℤ → List ℕ

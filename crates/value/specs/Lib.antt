@@ -11,3 +11,4 @@ pub mod Plain
 pub mod Examples
 pub mod Apart
 pub mod Same
+pub mod Numbers

@@ -29,8 +29,7 @@ impl Ending {
     {
         match self {
             Ending::Each => b"\r\n",
-            Ending::Once => b"",
-            Ending::Dropped => b"",
+            Ending::Once | Ending::Dropped => b"",
         }
     }
 
@@ -39,24 +38,24 @@ impl Ending {
         ensures { result.now ≡ last_end self }
     {
         match self {
-            Ending::Each => b"",
             Ending::Once => b"\r\n",
-            Ending::Dropped => b"",
+            Ending::Each | Ending::Dropped => b"",
         }
     }
 }
 
 // Writes one value, or nothing where it has no room: how many bytes were written.
+// Kept: (d) address and nominal value side by side: a struct of the two would have no meaning of its own.
 pub fn write_value<F: ValueFormat>(
     measured: Measured,
     address: u8,
     nominal: u32,
     out: &mut [u8],
 ) -> usize
-    ensures count { result ≡ length (granted out.old (value_bytes F.ValueFormat.bounds F.ValueFormat.bytes nominal address measured)) }
-    ensures buffer { out.new ≡ written out.old (value_bytes F.ValueFormat.bounds F.ValueFormat.bytes nominal address measured) }
+    ensures count { result ≡ length (granted out.old (value_bytes F.LIMITS F.bytes nominal address measured)) }
+    ensures buffer { out.new ≡ written out.old (value_bytes F.LIMITS F.bytes nominal address measured) }
 {
-    let indicated = F::limits().indicated(nominal, measured.value);
+    let indicated = F::LIMITS.indicated(nominal, measured.value);
     F::put(indicated, address, measured.status, out)
 }
 
@@ -67,41 +66,6 @@ fn size(values: usize, each: usize, last: usize) -> u128
     values as u128 * each as u128 + last as u128
 }
 
-// Writes one value and what ends it, which have room.
-fn put_ended<F: ValueFormat>(
-    measured: Measured,
-    address: u8,
-    nominal: u32,
-    end: &[u8],
-    out: &mut [u8],
-) -> usize
-    requires { F.ValueFormat.wide + length end.now ≤ length out.old }
-    ensures count { result ≡ F.ValueFormat.wide + length end.now }
-    ensures buffer { out.new ≡ onto (value_bytes F.ValueFormat.bounds F.ValueFormat.bytes nominal address measured ++ end.now) out.old }
-{
-    let n = write_value::<F>(measured, address, nominal, out);
-    n + place(end, &mut out[n..])
-}
-
-// Writes the values one after another, each with what ends it, which have room.
-fn put_all<F: ValueFormat>(
-    values: &[Measured],
-    address: u8,
-    nominal: u32,
-    end: &[u8],
-    out: &mut [u8],
-) -> usize
-    requires { length values.now * (F.ValueFormat.wide + length end.now) ≤ length out.old }
-    ensures count { result ≡ length (flat_map (λ m. value_bytes F.ValueFormat.bounds F.ValueFormat.bytes nominal address m ++ end.now) values.now) }
-    ensures buffer { out.new ≡ onto (flat_map (λ m. value_bytes F.ValueFormat.bounds F.ValueFormat.bytes nominal address m ++ end.now) values.now) out.old }
-{
-    let mut n = 0;
-    for m in values {
-        n += put_ended::<F>(*m, address, nominal, end, &mut out[n..]);
-    }
-    n
-}
-
 // Writes the values one after another, or nothing where the whole block has no room: how many bytes were written.
 pub fn write_block<F: ValueFormat>(
     values: &[Measured],
@@ -110,14 +74,18 @@ pub fn write_block<F: ValueFormat>(
     ending: Ending,
     out: &mut [u8],
 ) -> usize
-    ensures count { result ≡ length (granted out.old (block ending (value_bytes F.ValueFormat.bounds F.ValueFormat.bytes nominal address) values.now)) }
-    ensures buffer { out.new ≡ written out.old (block ending (value_bytes F.ValueFormat.bounds F.ValueFormat.bytes nominal address) values.now) }
+    ensures count { result ≡ length (granted out.old (block ending (value_bytes F.LIMITS F.bytes nominal address) values.now)) }
+    ensures buffer { out.new ≡ written out.old (block ending (value_bytes F.LIMITS F.bytes nominal address) values.now) }
 {
     let each = ending.after_each();
     let last = ending.after_all();
-    if (out.len() as u128) < size(values.len(), F::width_of() + each.len(), last.len()) {
+    if (out.len() as u128) < size(values.len(), F::WIDTH + each.len(), last.len()) {
         return 0;
     }
-    let n = put_all::<F>(values, address, nominal, each, out);
+    let mut n = 0;
+    for m in values {
+        n += write_value::<F>(*m, address, nominal, &mut out[n..]);
+        n += place(each, &mut out[n..]);
+    }
     n + place(last, &mut out[n..])
 }

@@ -3,10 +3,11 @@ ghost use Rattle.value.specs.Formats.{decimal, decimal_status, decimal_limits};
 ghost use Rattle.value.specs.Apart.{decimal_apart, decimal_status_apart};
 ghost use Rattle.std.proofs.Common.{rules};
 
-use crate::digits::{seven_digits, three_digits, two_digits};
 use crate::format::ValueFormat;
 use crate::limits::Limits;
 use crate::placing::place;
+use crate::signed::signed;
+use figures::digits;
 
 const DECIMAL_LIMITS: Limits = Limits {
     lower: -1_638_400,
@@ -20,13 +21,15 @@ pub struct Decimal;
 impl ValueFormat for Decimal {
     const WIDTH: usize = 8;
 
+    ghost WIDTH = { 8 };
+
     const FULL_SCALE: u32 = 1_000_000;
 
-    ghost wide = { 8 };
+    ghost FULL_SCALE = { 1000000 };
 
-    ghost full = { 1000000 };
+    const LIMITS: Limits = DECIMAL_LIMITS;
 
-    ghost bounds = { decimal_limits };
+    ghost LIMITS = { decimal_limits };
 
     ghost bytes = { decimal };
 
@@ -36,20 +39,8 @@ impl ValueFormat for Decimal {
 
     ghost apart = { decimal_apart };
 
-    fn width_of() -> usize {
-        Self::WIDTH
-    }
-
-    fn full_of() -> u32 {
-        Self::FULL_SCALE
-    }
-
-    fn limits() -> Limits {
-        DECIMAL_LIMITS
-    }
-
     fn put(indicated: i32, address: u8, status: u8, out: &mut [u8]) -> usize {
-        place(&seven_digits(indicated), out)
+        place(&signed::<8>(i64::from(indicated)), out)
     }
 }
 
@@ -59,13 +50,15 @@ pub struct DecimalStatus;
 impl ValueFormat for DecimalStatus {
     const WIDTH: usize = 15;
 
+    ghost WIDTH = { 15 };
+
     const FULL_SCALE: u32 = 1_000_000;
 
-    ghost wide = { 15 };
+    ghost FULL_SCALE = { 1000000 };
 
-    ghost full = { 1000000 };
+    const LIMITS: Limits = DECIMAL_LIMITS;
 
-    ghost bounds = { decimal_limits };
+    ghost LIMITS = { decimal_limits };
 
     ghost bytes = { decimal_status };
 
@@ -75,27 +68,11 @@ impl ValueFormat for DecimalStatus {
 
     ghost apart = { decimal_status_apart };
 
-    fn width_of() -> usize {
-        Self::WIDTH
-    }
-
-    fn full_of() -> u32 {
-        Self::FULL_SCALE
-    }
-
-    fn limits() -> Limits {
-        DECIMAL_LIMITS
-    }
-
     fn put(indicated: i32, address: u8, status: u8, out: &mut [u8]) -> usize {
-        let [sign, d6, d5, d4, d3, d2, d1, d0] = seven_digits(indicated);
-        let [a1, a0] = two_digits(address);
-        let [s2, s1, s0] = three_digits(status);
-        place(
-            &[
-                sign, d6, d5, d4, d3, d2, d1, d0, b',', a1, a0, b',', s2, s1, s0,
-            ],
-            out,
-        )
+        let mut text = [b','; 15];
+        text[..8].copy_from_slice(&signed::<8>(i64::from(indicated)));
+        text[9..11].copy_from_slice(&digits::<2>(u64::from(address)));
+        text[12..].copy_from_slice(&digits::<3>(u64::from(status)));
+        place(&text, out)
     }
 }

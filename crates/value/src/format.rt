@@ -7,37 +7,24 @@ ghost use Rattle.value.specs.declared.limits.Limits.{Limits};
 use crate::limits::Limits;
 
 // A way to write a value in a fixed number of bytes.
-//
-// A clause cannot name an associated constant, so a ghost member of the same value and a function that
-// answers the constant stand beside each: `wide` and `width_of` beside WIDTH, `full` and `full_of`
-// beside FULL_SCALE.
 pub trait ValueFormat {
     // How many bytes a value takes.
     const WIDTH: usize;
 
+    ghost WIDTH: { ℕ };
+
     // What the whole span shows where no nominal value is set.
     const FULL_SCALE: u32;
 
-    ghost wide: { ℕ };
+    ghost FULL_SCALE: { ℕ };
 
-    ghost full: { ℕ };
+    // What fits, and the overflow values.
+    const LIMITS: Limits;
 
-    ghost bounds: { Limits };
+    ghost LIMITS: { Limits };
 
     // the bytes from the address, the status and the indicated value
     ghost bytes: { ℕ → ℕ → ℤ → List ℕ };
-
-    // Answers WIDTH.
-    fn width_of() -> usize
-        ensures { result ≡ wide };
-
-    // Answers FULL_SCALE.
-    fn full_of() -> u32
-        ensures { result ≡ full };
-
-    // What fits, and the overflow values.
-    fn limits() -> Limits
-        ensures { result ≡ bounds };
 
     // Writes the bytes of an indicated value, or nothing where they have no room.
     fn put(indicated: i32, address: u8, status: u8, out: &mut [u8]) -> usize
@@ -45,11 +32,11 @@ pub trait ValueFormat {
         ensures buffer { out.new ≡ written out.old (bytes address status indicated) };
 
     // every value takes the width
-    ghost long: { (a s : ℕ) (v : ℤ) → length (bytes a s v) ≡ wide };
+    ghost long: { (a s : ℕ) (v : ℤ) → length (bytes a s v) ≡ WIDTH };
 
     // no format is wider than 15 bytes
-    ghost short: { wide ≤ 15 };
+    ghost short: { WIDTH ≤ 15 };
 
     // a value that fits shares its bytes with no other: two values that fit never give the same bytes
-    ghost apart: { Apart bounds bytes };
+    ghost apart: { Apart LIMITS bytes };
 }

@@ -1,6 +1,7 @@
 // The layouts of a value, each by its format.
 ghost use Rattle.std.specs.Prelude.{◌≡◌, ◌≤◌, length};
 ghost use Rattle.value.specs.Blocks.{value_bytes, block};
+ghost use Rattle.value.specs.Numbers.{known};
 ghost use Rattle.value.specs.Output.{shape, layout_numbered};
 ghost use Rattle.value.specs.Written.{granted, written};
 
@@ -9,63 +10,70 @@ use crate::block::{Ending, Measured, write_block};
 use crate::decimal::{Decimal, DecimalStatus};
 use crate::format::ValueFormat;
 use crate::limits::Limits;
+use crate::unknown::UnknownNumber;
 
-// The order of the bytes of a value.
+// The order of the bytes of a value; the discriminant is the layout's number.
 #[derive(Clone, Copy)]
 pub enum Layout {
-    ThreeBytes,
-    ThreeBytesStatus,
-    ThreeBytesReversed,
-    ThreeBytesStatusReversed,
-    TwoBytes,
-    TwoBytesReversed,
-    Decimal,
-    DecimalStatus,
+    ThreeBytes = 0,
+    ThreeBytesStatus = 8,
+    ThreeBytesReversed = 4,
+    ThreeBytesStatusReversed = 12,
+    TwoBytes = 2,
+    TwoBytesReversed = 6,
+    Decimal = 3,
+    DecimalStatus = 9,
+}
+
+impl TryFrom<u8> for Layout {
+    type Error = UnknownNumber;
+
+    ghost try_from_gives = { λ n layout. layout ≡ known n (layout_numbered n) };
+
+    // The layout with this number.
+    fn try_from(number: u8) -> Result<Self, UnknownNumber> {
+        match number {
+            0 => Ok(Layout::ThreeBytes),
+            2 => Ok(Layout::TwoBytes),
+            3 => Ok(Layout::Decimal),
+            4 => Ok(Layout::ThreeBytesReversed),
+            6 => Ok(Layout::TwoBytesReversed),
+            8 => Ok(Layout::ThreeBytesStatus),
+            9 => Ok(Layout::DecimalStatus),
+            12 => Ok(Layout::ThreeBytesStatusReversed),
+            _ => Err(UnknownNumber(number)),
+        }
+    }
 }
 
 impl Layout {
-    // The layout with this number.
-    pub(crate) fn from_number(number: u8) -> Option<Layout>
-        ensures { result ≡ layout_numbered number }
-    {
-        match number {
-            0 => Some(Layout::ThreeBytes),
-            2 => Some(Layout::TwoBytes),
-            3 => Some(Layout::Decimal),
-            4 => Some(Layout::ThreeBytesReversed),
-            6 => Some(Layout::TwoBytesReversed),
-            8 => Some(Layout::ThreeBytesStatus),
-            9 => Some(Layout::DecimalStatus),
-            12 => Some(Layout::ThreeBytesStatusReversed),
-            _ => None,
-        }
-    }
-
     // Its number.
     pub(crate) fn number(self) -> u8
         ensures value { result ≡ (shape self).number }
         ensures small { result ≤ 12 }
     {
-        match self {
-            Layout::ThreeBytes => 0,
-            Layout::ThreeBytesStatus => 8,
-            Layout::ThreeBytesReversed => 4,
-            Layout::ThreeBytesStatusReversed => 12,
-            Layout::TwoBytes => 2,
-            Layout::TwoBytesReversed => 6,
-            Layout::Decimal => 3,
-            Layout::DecimalStatus => 9,
-        }
+        self as u8
     }
 
     // Whether the values are text.
     pub(crate) fn is_decimal(self) -> bool
         ensures { result ≡ (shape self).decimal }
     {
+        matches!(self, Layout::Decimal | Layout::DecimalStatus)
+    }
+
+    // The full scale and the limits of its family of formats.
+    fn family(self) -> (u32, Limits)
+        ensures full { result.0 ≡ (shape self).full }
+        ensures limits { result.1 ≡ (shape self).limits }
+    {
         match self {
-            Layout::Decimal => true,
-            Layout::DecimalStatus => true,
-            _ => false,
+            Layout::ThreeBytes
+            | Layout::ThreeBytesStatus
+            | Layout::ThreeBytesReversed
+            | Layout::ThreeBytesStatusReversed => (ThreeBytes::FULL_SCALE, ThreeBytes::LIMITS),
+            Layout::TwoBytes | Layout::TwoBytesReversed => (TwoBytes::FULL_SCALE, TwoBytes::LIMITS),
+            Layout::Decimal | Layout::DecimalStatus => (Decimal::FULL_SCALE, Decimal::LIMITS),
         }
     }
 
@@ -73,32 +81,14 @@ impl Layout {
     pub(crate) fn full_scale(self) -> u32
         ensures { result ≡ (shape self).full }
     {
-        match self {
-            Layout::ThreeBytes => <ThreeBytes as ValueFormat>::full_of(),
-            Layout::ThreeBytesStatus => <ThreeBytesStatus as ValueFormat>::full_of(),
-            Layout::ThreeBytesReversed => <ThreeBytes as ValueFormat>::full_of(),
-            Layout::ThreeBytesStatusReversed => <ThreeBytesStatus as ValueFormat>::full_of(),
-            Layout::TwoBytes => <TwoBytes as ValueFormat>::full_of(),
-            Layout::TwoBytesReversed => <TwoBytes as ValueFormat>::full_of(),
-            Layout::Decimal => <Decimal as ValueFormat>::full_of(),
-            Layout::DecimalStatus => <DecimalStatus as ValueFormat>::full_of(),
-        }
+        self.family().0
     }
 
     // What fits, and the overflow values.
     pub(crate) fn limits(self) -> Limits
         ensures { result ≡ (shape self).limits }
     {
-        match self {
-            Layout::ThreeBytes => <ThreeBytes as ValueFormat>::limits(),
-            Layout::ThreeBytesStatus => <ThreeBytesStatus as ValueFormat>::limits(),
-            Layout::ThreeBytesReversed => <ThreeBytes as ValueFormat>::limits(),
-            Layout::ThreeBytesStatusReversed => <ThreeBytesStatus as ValueFormat>::limits(),
-            Layout::TwoBytes => <TwoBytes as ValueFormat>::limits(),
-            Layout::TwoBytesReversed => <TwoBytes as ValueFormat>::limits(),
-            Layout::Decimal => <Decimal as ValueFormat>::limits(),
-            Layout::DecimalStatus => <DecimalStatus as ValueFormat>::limits(),
-        }
+        self.family().1
     }
 
     // Writes the values as a block of this layout, or nothing where they have no room.
@@ -113,6 +103,7 @@ impl Layout {
         ensures count { result ≡ length (granted out.old (block ending (value_bytes (shape self).limits (shape self).bytes nominal address) values.now)) }
         ensures buffer { out.new ≡ written out.old (block ending (value_bytes (shape self).limits (shape self).bytes nominal address) values.now) }
     {
+        // Kept: (c) a writer for each layout behind one function pointer was tried: no pointer to a generic function gets a proof.
         match self {
             Layout::ThreeBytes => write_block::<ThreeBytes>(values, address, nominal, ending, out),
             Layout::ThreeBytesStatus => {

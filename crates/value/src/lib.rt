@@ -4,7 +4,6 @@
 pub mod binary;
 pub mod block;
 pub mod decimal;
-mod digits;
 pub mod examples;
 pub mod format;
 pub mod layout;
@@ -14,4 +13,6 @@ pub mod placing;
 pub mod plain;
 pub mod rounding;
 pub mod scaling;
+mod signed;
 pub mod status;
+mod unknown;

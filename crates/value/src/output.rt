@@ -1,11 +1,13 @@
 // The output formats by their numbers, and a block of values in one of them.
-ghost use Rattle.std.specs.Prelude.{◌≡◌, ◌-◌, true, false, length, if◌then◌else◌, nat_lt};
+ghost use Rattle.std.specs.Prelude.{◌≡◌, length};
 ghost use Rattle.value.specs.Fitting.{fits};
-ghost use Rattle.value.specs.Output.{shape, numbered, numbered_format, full_shown, ending_of, format_number, format_block, Numbered, LayoutsApart, BlocksHaveRoom};
+ghost use Rattle.value.specs.Numbers.{known};
+ghost use Rattle.value.specs.Output.{shape, numbered_format, full_shown, ending_of, format_number, format_block, Numbered, LayoutsApart, BlocksHaveRoom};
 ghost use Rattle.value.specs.Written.{granted, written};
 
 use crate::block::{Ending, Measured};
 use crate::layout::Layout;
+pub use crate::unknown::UnknownNumber;
 
 // A format whose number is larger by this drops CR LF.
 const DROPPED: u8 = 32;
@@ -17,35 +19,30 @@ pub struct OutputFormat {
     pub ended: bool,
 }
 
-// The format with the layout of this number.
-fn with_layout(number: u8, ended: bool) -> Option<OutputFormat>
-    ensures { result ≡ numbered number ended }
-{
-    let layout = Layout::from_number(number)?;
-    Some(OutputFormat { layout, ended })
-}
+impl TryFrom<u8> for OutputFormat {
+    type Error = UnknownNumber;
 
-// The format with this number.
-fn parsed(number: u8) -> Option<OutputFormat>
-    ensures { result ≡ (if nat_lt number 32 then numbered number true else numbered (number - 32) false) }
-{
-    if number < DROPPED {
-        with_layout(number, true)
-    } else {
-        with_layout(number - DROPPED, false)
+    ghost try_from_gives = { λ n format. format ≡ known n (numbered_format n) };
+
+    // The format with this number: that of its layout, or 32 more where CR LF is dropped.
+    #[tactic(auto, using(crate::proofs::Numbers::number_law), unfolding(crate::specs::Output::numbered_format))]
+    fn try_from(number: u8) -> Result<Self, UnknownNumber>
+        ensures value { result ≡ known number (numbered_format number) }
+        ensures inverse { Numbered }
+    {
+        let (own, ended) = if number < DROPPED {
+            (number, true)
+        } else {
+            (number - DROPPED, false)
+        };
+        let layout = Layout::try_from(own).map_err(|_| UnknownNumber(number))?;
+        Ok(OutputFormat { layout, ended })
     }
 }
 
 impl OutputFormat {
-    // The format with this number: that of its layout, or 32 more where CR LF is dropped.
-    pub fn from_number(number: u8) -> Option<OutputFormat>
-        ensures value { result ≡ numbered_format number }
-        ensures inverse { Numbered }
-    {
-        parsed(number)
-    }
-
     // Its number.
+    #[tactic(auto, unfolding(crate::specs::Output::format_number))]
     pub fn number(self) -> u8
         ensures { result ≡ format_number self }
     {
@@ -89,6 +86,7 @@ impl OutputFormat {
 
     // Writes the values one after another, or nothing where they have no room: how many bytes were
     // written. At most 64 values always have room in 1,088 bytes.
+    #[tactic(auto, using(crate::proofs::Laws::layouts_apart, crate::proofs::Laws::blocks_have_room), unfolding(crate::specs::Output::format_block))]
     pub fn write(self, values: &[Measured], address: u8, nominal: u32, out: &mut [u8]) -> usize
         ensures count { result ≡ length (granted out.old (format_block self nominal address values.now)) }
         ensures buffer { out.new ≡ written out.old (format_block self nominal address values.now) }

@@ -3,8 +3,9 @@ ghost use Rattle.std.specs.Prelude.{◌≡◌, length};
 ghost use Rattle.value.specs.Plain.{plain_text, line};
 ghost use Rattle.value.specs.Written.{granted, written};
 
-use crate::digits::{digit, eight_digits, three_digits};
-use crate::placing::place_two;
+use crate::placing::place;
+use crate::signed::signed;
+use figures::digits;
 
 const CRLF: &[u8; 2] = b"\r\n";
 
@@ -26,7 +27,11 @@ pub fn write_line(text: &[u8], out: &mut [u8]) -> usize
     ensures count { result ≡ length (granted out.old (line text.now)) }
     ensures buffer { out.new ≡ written out.old (line text.now) }
 {
-    place_two(text, CRLF, out)
+    if (out.len() as u128) < text.len() as u128 + 2 {
+        return 0;
+    }
+    let n = place(text, out);
+    n + place(CRLF, &mut out[n..])
 }
 
 impl Plain {
@@ -38,9 +43,9 @@ impl Plain {
         match self {
             Plain::Done => write_line(b"0", out),
             Plain::Refused => write_line(b"?", out),
-            Plain::Digit(n) => write_line(&[digit(n as u64, 1)], out),
-            Plain::ThreeDigits(n) => write_line(&three_digits(n), out),
-            Plain::Signed(value) => write_line(&eight_digits(value), out),
+            Plain::Digit(n) => write_line(&digits::<1>(u64::from(n)), out),
+            Plain::ThreeDigits(n) => write_line(&digits::<3>(u64::from(n)), out),
+            Plain::Signed(value) => write_line(&signed::<9>(value), out),
         }
     }
 }

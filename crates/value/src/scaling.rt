@@ -6,7 +6,7 @@ ghost use Rattle.value.specs.Scaled.{scaled, in_digits, Shown};
 use crate::rounding::nearest;
 
 // Loads are kept in this fraction of a digit.
-const PER_DIGIT: i128 = 16_000;
+pub const PER_DIGIT: i64 = 16_000;
 
 // The exact product.
 fn times(x: i128, by: u32) -> i128
@@ -17,25 +17,11 @@ fn times(x: i128, by: u32) -> i128
 }
 
 // How many steps the load `num` of a span shows, where the whole span shows `full`.
-fn quotient(num: i64, full: u32, span: i64, step: u8) -> i128
-    ensures { result ≡ nearest (num *ℤ pos full) (span *ℤ pos step) }
-{
-    nearest(times(num as i128, full), times(span as i128, step as u32))
-}
-
-// The same, with its bound.
-fn whole_steps(num: i64, full: u32, span: i64, step: u8) -> i128
+fn steps(num: i64, full: u32, span: i64, step: u8) -> i128
     ensures value { result ≡ nearest (num *ℤ pos full) (span *ℤ pos step) }
     ensures size { unsigned_abs result ≤ 2 ^ 95 }
 {
-    quotient(num, full, span, step)
-}
-
-// What those steps come to.
-fn in_steps(num: i64, full: u32, span: i64, step: u8) -> i128
-    ensures { result ≡ nearest (num *ℤ pos full) (span *ℤ pos step) *ℤ pos step }
-{
-    times(whole_steps(num, full, span, step), step as u32)
+    nearest(times(num as i128, full), times(span as i128, step as u32))
 }
 
 // The value shown for the load `num` of a span, where the whole span shows `full`: in whole steps,
@@ -44,14 +30,7 @@ pub fn shown(num: i64, full: u32, span: i64, step: u8) -> i128
     ensures value { result ≡ scaled num full span step }
     ensures close { pos 0 <ℤ span → 0 < step → Shown num full span step result }
 {
-    in_steps(num, full, span, step)
-}
-
-// A load in 1/16,000 digit, rounded to whole digits, in more room than they need.
-fn wide_digits(load: i64) -> i128
-    ensures { result ≡ nearest load (pos 16000) }
-{
-    nearest(load as i128, PER_DIGIT)
+    times(steps(num, full, span, step), step as u32)
 }
 
 // A load in 1/16,000 digit, rounded to whole digits.
@@ -59,5 +38,5 @@ pub fn whole_digits(load: i64) -> i64
     ensures value { result ≡ in_digits load }
     ensures close { Rounded load (pos 16000) result }
 {
-    wide_digits(load) as i64
+    nearest(load as i128, PER_DIGIT as i128) as i64
 }

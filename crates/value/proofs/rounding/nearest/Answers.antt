@@ -1,11 +1,20 @@
-use Rattle.std.proofs.Common.{◌*◌, ◌≤◌, pos, ◌+ℤ◌, ◌-ℤ◌, nat_abs, ◌≤ℤ◌, ◌<ℤ◌, sym, ◌∙◌, subst, arith, SFits}
+use Rattle.std.proofs.Common.{◌≡◌, ◌*◌, ◌≤◌, ℤ, pos, ◌+ℤ◌, ◌-ℤ◌, nat_abs, ◌≤ℤ◌, ◌<ℤ◌, sym, ◌∙◌, subst, arith, SFits}
 use lib.Signed.{quot_z, clash_ℤ}
 use mir.Syntax.{w128}
 use Rattle.std.proofs.lemmas.Int.{ints, to_z-of_z}
 use Rattle.std.proofs.lemmas.Bool.{leb-true, leb-false}
-use Rattle.value.specs.Rounding.{Rounded}
+use Rattle.value.specs.Rounding.{nearest, Rounded}
 use Rattle.value.proofs.Quotient.{rounded, nearest_none, nearest_fits, nearest_le, quot_fits, rem_fits, whole, one_more, one_less}
 use Rattle.value.proofs.rounding.nearest.Goals as goal
+
+-- what is equal to the nearest number is one that rounds, and no larger than the dividend
+record Found (num den q : ℤ) : Type 0 where
+  value : q ≡ nearest num den
+  close : pos 0 <ℤ den → Rounded num den q
+  size : nat_abs q ≤ nat_abs num
+
+found : (num den q : ℤ) → pos 0 <ℤ den → q ≡ nearest num den → Found num den q
+found num den q p e = record { value = e; close = λ h. subst (Rounded num den) (sym e) (rounded num den p); size = subst (λ z. nat_abs z ≤ nat_abs num) (sym e) (nearest_le num den) }
 
 pub returns-then-den-le0 : goal.returns-then-den-le0
 returns-then-den-le0 c =
@@ -24,12 +33,8 @@ returns-else-half c =
     let a = simp to_z-of_z at c.unsigned_abs.ensures.value in
     let b = simp to_z-of_z at c.unsigned_abs-rest.ensures.value in
     let t = leb-false c.unsigned_abs.result (2 * c.unsigned_abs-rest.result) (sym c.half_or_more-half.ensures ∙ c.if-half.false) in
-    let e = whole num den p (omega (arith, a, b)) in
-    record {
-      value = simp to_z-of_z e;
-      close = λ h. simp to_z-of_z (subst (Rounded num den) (sym e) (rounded num den p));
-      size = simp to_z-of_z (subst (λ z. nat_abs z ≤ nat_abs num) (sym e) (nearest_le num den));
-    }
+    let f = found num den (quot_z num den) p (whole num den p (omega (arith, a, b))) in
+    record { value = simp to_z-of_z f.value; close = simp to_z-of_z f.close; size = simp to_z-of_z f.size }
 
 pub returns-then-num-lt0 : goal.returns-then-num-lt0
 returns-then-num-lt0 c =
@@ -44,12 +49,9 @@ returns-then-num-lt0 c =
     let b = simp to_z-of_z at c.unsigned_abs-rest.ensures.value in
     let t = leb-true c.unsigned_abs.result (2 * c.unsigned_abs-rest.result) (sym c.half_or_more-half.ensures ∙ c.if-half.true) in
     let e = one_less num den p (omega (arith, ints)) (omega (arith, a, b)) in
-    let f : SFits w128 (quot_z num den -ℤ pos 1) = subst (SFits w128) (sym e) (nearest_fits num den n) in
-    record {
-      value = simp to_z-of_z e;
-      close = λ h. simp to_z-of_z (subst (Rounded num den) (sym e) (rounded num den p));
-      size = simp to_z-of_z (subst (λ z. nat_abs z ≤ nat_abs num) (sym e) (nearest_le num den));
-    }
+    let s : SFits w128 (quot_z num den -ℤ pos 1) = subst (SFits w128) (sym e) (nearest_fits num den n) in
+    let f = found num den (quot_z num den -ℤ pos 1) p e in
+    record { value = simp to_z-of_z f.value; close = simp to_z-of_z f.close; size = simp to_z-of_z f.size }
 
 pub returns-else-num-lt0 : goal.returns-else-num-lt0
 returns-else-num-lt0 c =
@@ -64,9 +66,6 @@ returns-else-num-lt0 c =
     let b = simp to_z-of_z at c.unsigned_abs-rest.ensures.value in
     let t = leb-true c.unsigned_abs.result (2 * c.unsigned_abs-rest.result) (sym c.half_or_more-half.ensures ∙ c.if-half.true) in
     let e = one_more num den p (omega (arith, ints)) (omega (arith, a, b)) in
-    let f : SFits w128 (quot_z num den +ℤ pos 1) = subst (SFits w128) (sym e) (nearest_fits num den n) in
-    record {
-      value = simp to_z-of_z e;
-      close = λ h. simp to_z-of_z (subst (Rounded num den) (sym e) (rounded num den p));
-      size = simp to_z-of_z (subst (λ z. nat_abs z ≤ nat_abs num) (sym e) (nearest_le num den));
-    }
+    let s : SFits w128 (quot_z num den +ℤ pos 1) = subst (SFits w128) (sym e) (nearest_fits num den n) in
+    let f = found num den (quot_z num den +ℤ pos 1) p e in
+    record { value = simp to_z-of_z f.value; close = simp to_z-of_z f.close; size = simp to_z-of_z f.size }

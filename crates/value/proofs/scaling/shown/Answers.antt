@@ -1,4 +1,4 @@
-use Rattle.std.proofs.Common.{◌≡◌, sym, subst, SFits}
+use Rattle.std.proofs.Common.{pos, ◌*ℤ◌, sym, ap, ◌∙◌, subst, SFits}
 use mir.Syntax.{w128}
 use Rattle.std.proofs.lemmas.Int.{to_z-of_z}
 use Rattle.value.specs.Scaled.{scaled, Shown}
@@ -14,6 +14,7 @@ returns c =
     let step = c.args.step in
     let n = c.ranges.num in
     let s = c.ranges.span in
-    let v : SFits w128 c.in_steps.result = record { sfits = c.in_steps.type_inv } in
-    let e : c.in_steps.result ≡ scaled num full span step = simp to_z-of_z at c.in_steps.ensures in
+    let t : SFits w128 c.steps.result = record { sfits = c.steps.type_inv } in
+    let v : SFits w128 c.times.result = record { sfits = c.times.type_inv } in
+    let e = (simp to_z-of_z at c.times.ensures) ∙ ap (λ z. z *ℤ pos step) (simp to_z-of_z at c.steps.ensures.value) in
     record { value = simp to_z-of_z e; close = λ h k. simp to_z-of_z (subst (Shown num full span step) (sym e) (shown_law num full span step h k)) }
