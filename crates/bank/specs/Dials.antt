@@ -1,14 +1,13 @@
 -- What a table of dials means.
-use Rattle.std.specs.Prelude.{ℕ, ◌-◌, cond, ◌&&◌, List, get_or, replicate, ℤ, pos, None, Ok, Option, Result, ◌==◌, nat_le, slice_index_or}
+use Rattle.std.specs.Prelude.{ℕ, ◌-◌, cond, ◌≤◌, ◌&&◌, List, length, get_or, replicate, ℤ, pos, Ok, Option, Result, ◌==◌, nat_le, slice_index_or}
 use Rattle.std.proofs.Common.{arith}
 use Rattle.std.proofs.lemmas.List.{length-replicate}
 use Rattle.fault.specs.declared.faults.Fault.{Fault}
 use Rattle.bank.specs.declared.factor.CornerFactor.{CornerFactor}
 use Rattle.bank.specs.declared.dial.Dial.{Dial}
 use Rattle.bank.specs.Ports.{Port, Sound, ranged}
-use Rattle.bank.specs.Gauges.{gauged}
-use Rattle.bank.specs.GaugeLaws.{gauged_sound}
-use Rattle.bank.specs.Fitting.{factor_at, tuned_at}
+use Rattle.bank.specs.Gauges.{fitted}
+use Rattle.bank.specs.Fitting.{factor_at, fitted_sound}
 
 -- what a dial is set to: its digits, and how often they are still given
 pub record Setting : Type 0 where
@@ -39,9 +38,16 @@ set_at s p t k = cond (nat_le p 31 && k == p) t (s k)
 abbrev pub spent : Setting → Setting
 spent t = record { digits = t.digits; conversions = t.conversions - 1 }
 
--- the same digits wait as often as conversions are left, where a gauge is fitted
+-- the same digits are given as often as conversions are left
+abbrev pub given : (ℕ → Setting) → ℕ → List ℤ
+given s p = replicate (s p).conversions (s p).digits
+
+-- they wait, where a gauge is fitted
 abbrev pub dialled : (ℕ → Option ℕ) → (ℕ → Setting) → ℕ → Port
-dialled f s p = gauged (f p) (replicate (s p).conversions (s p).digits)
+dialled f s = fitted f (given s)
+
+pub given_short : (ds : List Dial) (p : ℕ) → length (given (setting_at ds) p) ≤ 65535
+given_short ds p = rw length-replicate (get_or ds p still).short
 
 pub dialled_sound : (fs : List (Option CornerFactor)) (ds : List Dial) (p : ℕ) → Sound (dialled (factor_at fs) (setting_at ds) p)
-dialled_sound fs ds p = gauged_sound (factor_at fs p) _ (tuned_at (slice_index_or fs p None)) (rw length-replicate (get_or ds p still).short)
+dialled_sound fs ds p = fitted_sound fs (given (setting_at ds)) p (given_short ds p)

@@ -20,6 +20,10 @@ abbrev pub gauged : Option ℕ → List ℤ → Port
 gauged None ds = none
 gauged (Some f) ds = record { gauges = 1; waiting = map (reading f) ds }
 
+-- the digits that are due wait, where a gauge is fitted
+abbrev pub fitted : (ℕ → Option ℕ) → (ℕ → List ℤ) → ℕ → Port
+fitted f ds p = gauged (f p) (ds p)
+
 -- a corner factor lies within 500 to 1,500 thousandths
 abbrev pub tuned_to : ℕ → Option ℕ
 tuned_to f = cond (nat_le 500 f && nat_le f 1500) (Some f) None

@@ -41,7 +41,7 @@ abbrev pub first : ℕ → List Reading → Result Reading Fault
 first p [] = Err (refusal TooFewReadings p)
 first p (x ∷ xs) = Ok x
 
-abbrev pub rest : List Reading → List Reading
+abbrev pub rest : {A : Type 0} → List A → List A
 rest [] = []
 rest (x ∷ xs) = xs
 
@@ -53,8 +53,8 @@ popped a = record { gauges = a.gauges; waiting = rest a.waiting }
 abbrev pub counts : Port → Counts
 counts a = record { gauges = a.gauges; waiting = length a.waiting }
 
--- the first reading that waits, if one does
-abbrev pub front : List Reading → Option Reading
+-- the first of a list, if there is one
+abbrev pub front : {A : Type 0} → List A → Option A
 front [] = None
 front (x ∷ xs) = Some x
 
@@ -77,6 +77,10 @@ first_at m p = ranged p (first p (m p).waiting)
 
 abbrev pub drawn_at : (ℕ → Port) → ℕ → Result Drawn Fault
 drawn_at m p = ranged p (Ok (drawing (m p)))
+
+-- the lists of the ports, less the first of that of port p
+abbrev pub less_at : {A : Type 0} → (ℕ → List A) → ℕ → ℕ → List A
+less_at ds p k = cond (k == p) (rest (ds k)) (ds k)
 
 -- the ports after taking at port p
 abbrev pub rest_at : (ℕ → Port) → ℕ → ℕ → Port

@@ -4,7 +4,7 @@ use Rattle.bank.specs.declared.record.Record.{Record}
 use Rattle.bank.specs.declared.record.Cursor.{Cursor}
 use Rattle.bank.specs.declared.record.Found.{Found}
 use Rattle.bank.specs.Ports.{Port}
-use Rattle.bank.specs.Gauges.{gauged}
+use Rattle.bank.specs.Gauges.{fitted}
 
 -- the digits of the records of port p, in the order of the list
 abbrev pub due : ℕ → List Record → List ℤ
@@ -24,7 +24,7 @@ due_at rs cs p = due p (drop (slice_index_or cs p origin).next rs)
 
 -- the records that are due wait, where a gauge is fitted
 abbrev pub recorded : (ℕ → Option ℕ) → (ℕ → List ℤ) → ℕ → Port
-recorded f ds p = gauged (f p) (ds p)
+recorded = fitted
 
 -- the first record of port p at place n or later, if there is one
 abbrev pub Nexts : ℕ → List Record → ℕ → Option Found → Type 0

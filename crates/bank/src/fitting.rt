@@ -1,13 +1,13 @@
 // The gauges that are fitted at the ports of a bank, and what one reads.
-ghost use Rattle.std.specs.Prelude.{◌≡◌, ◌≤◌, Ok, unsigned_abs};
+ghost use Rattle.std.specs.Prelude.{◌≡◌, ◌≤◌, ok_or, unsigned_abs};
+ghost use Rattle.fault.specs.declared.causes.Cause.TheVariants.{FactorRange};
 ghost use Rattle.std.specs.Option.{option_map};
-ghost use Rattle.bank.specs.Ports.{ranged};
 ghost use Rattle.bank.specs.Gauges.{held, reading, tuned_to, fits, refitted, fit_at};
 ghost use Rattle.bank.specs.Fitting.{thousandths_of, factor_at, mapped_ok, count_of};
 
-use crate::checked_port;
 use crate::factor::CornerFactor;
 use crate::reading::{Mark, Reading};
+use crate::{Address, checked_port};
 use fault::{Cause, Fault};
 
 // The largest output of a gauge, in digits either way.
@@ -18,30 +18,28 @@ fn held_digits(digits: i32) -> i32
     ensures value { result ≡ held digits }
     ensures bound { unsigned_abs result ≤ 1638399 }
 {
-    if digits > FULL_OUTPUT {
-        FULL_OUTPUT
-    } else if digits < -FULL_OUTPUT {
-        -FULL_OUTPUT
-    } else {
-        digits
-    }
+    digits.clamp(-FULL_OUTPUT, FULL_OUTPUT)
 }
 
 const LOWEST: u16 = 500;
 
 const HIGHEST: u16 = 1500;
 
-impl CornerFactor {
-    // The factor, if it lies within 500 to 1,500 thousandths.
-    pub fn new(thousandths: u16) -> Option<CornerFactor>
-        ensures { option_map thousandths_of result ≡ tuned_to thousandths }
-    {
-        if thousandths < LOWEST || thousandths > HIGHEST {
-            return None;
-        }
-        Some(CornerFactor { thousandths })
-    }
+impl TryFrom<u16> for CornerFactor {
+    type Error = Cause;
 
+    ghost try_from_gives = { λ f factor. mapped_ok thousandths_of factor ≡ ok_or (tuned_to f) FactorRange };
+
+    // The factor, if it lies within 500 to 1,500 thousandths.
+    fn try_from(thousandths: u16) -> Result<Self, Cause> {
+        if thousandths < LOWEST || thousandths > HIGHEST {
+            return Err(Cause::FactorRange);
+        }
+        Ok(CornerFactor { thousandths })
+    }
+}
+
+impl CornerFactor {
     // What a gauge with this factor reads at these digits.
     pub fn reading(self, digits: i32) -> Reading
         ensures { result ≡ reading self.thousandths digits }
@@ -75,28 +73,25 @@ impl Fitting {
         ensures after { factor_at self.new.factors ≡ fit_at (factor_at self.old.factors) port thousandths }
     {
         let place = checked_port(port)?;
-        let Some(factor) = CornerFactor::new(thousandths) else {
-            return Err(Cause::FactorRange.at(place));
-        };
-        self.factors[place] = Some(factor);
+        let factor = CornerFactor::try_from(thousandths).map_err(|cause| cause.at(place.index()))?;
+        self.factors[place.index()] = Some(factor);
         Ok(())
     }
 
     // The corner factor of the gauge at a port, if there is one.
-    pub fn at(&self, port: u8) -> Result<Option<CornerFactor>, Fault>
-        ensures { mapped_ok (option_map thousandths_of) result ≡ ranged port (Ok (factor_at self.now.factors port)) }
+    pub fn at(&self, place: Address) -> Option<CornerFactor>
+        ensures { option_map thousandths_of result ≡ factor_at self.now.factors place.number }
     {
-        let place = checked_port(port)?;
-        Ok(self.factors[place])
+        self.factors[place.index()]
     }
 
     // How many gauges are fitted at a port: one or none.
-    pub fn gauges(&self, port: u8) -> Result<u8, Fault>
-        ensures { result ≡ ranged port (Ok (count_of (factor_at self.now.factors port))) }
+    pub fn gauges(&self, place: Address) -> u8
+        ensures { result ≡ count_of (factor_at self.now.factors place.number) }
     {
-        match self.at(port)? {
-            None => Ok(0),
-            Some(_) => Ok(1),
+        match self.at(place) {
+            None => 0,
+            Some(_) => 1,
         }
     }
 }

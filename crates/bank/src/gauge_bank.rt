@@ -1,21 +1,17 @@
 // What a bank of gauges means, and its calls.
 ghost use Rattle.std.specs.Prelude.{◌≡◌, ℕ, Ok};
+ghost use Rattle.bank.specs.Addresses.{number_of};
+ghost use Rattle.bank.specs.Fitting.{mapped_ok};
 ghost use Rattle.bank.specs.Ports.{Port, Sound, ranged, gauges_at, waiting_at, counts_at, first_at, drawn_at, rest_at};
 
-use crate::{Counts, Drawn, Reading};
+use crate::{Address, Counts, Drawn, Reading};
 use fault::{Cause, Fault};
 
-// The highest port of a bank.
-const LAST: u8 = 31;
-
-// A port as an index, or the refusal of one above 31.
-pub fn checked_port(port: u8) -> Result<usize, Fault>
-    ensures { result ≡ ranged port (Ok port) }
+// The address of a port, or the refusal of one above 31.
+pub fn checked_port(port: u8) -> Result<Address, Fault>
+    ensures { mapped_ok number_of result ≡ ranged port (Ok port) }
 {
-    if port > LAST {
-        return Err(Cause::PortRange.at(port as usize));
-    }
-    Ok(port as usize)
+    Address::new(port).ok_or(Cause::PortRange.at(port as usize))
 }
 
 // A bank of gauges at ports 0 to 31. It gives the first three calls; the other two follow from them, and a bank on a bank gives them in one walk. It means a gauge count and a list of waiting readings for each port, within the limits of `Sound`.

@@ -1,24 +1,21 @@
 // Loops over the records of a recording, with their index.
 ghost use Rattle.std.specs.Prelude.{◌≡◌, ◌<◌, ◌≤◌, length, take};
-ghost use Rattle.bank.specs.Records.{Nexts, due_at, due_of, noted_at, passed_at};
+ghost use Rattle.bank.specs.Records.{Nexts, due_at, due_of, noted_at};
 ghost use Rattle.bank.specs.RecordLaws.{Tallied};
 
+use crate::Address;
 use crate::record::{Cursor, Found, Record};
 
 // How many records of a list count.
-const MOST_RECORDS: usize = 65_535;
+pub const MOST_RECORDS: usize = 65_535;
 
 // The records that count.
+#[tactic(auto, using(std::proofs::lemmas::List::take_min))]
 pub(crate) fn first_records(records: &[Record]) -> &[Record]
     ensures value { result.now ≡ take 65535 records.now }
     ensures bound { length result.now ≤ 65535 }
 {
-    if records.len() > MOST_RECORDS {
-        let (front, _) = records.split_at(MOST_RECORDS);
-        front
-    } else {
-        records
-    }
+    &records[..MOST_RECORDS.min(records.len())]
 }
 
 // The cursor of a port after one record more of it, at place i.
@@ -40,37 +37,21 @@ pub(crate) fn found_and_counted(records: &[Record]) -> [Cursor; 32]
 {
     let mut cursors = [Cursor { next: 0, left: 0 }; 32];
     for (i, record) in records.iter().enumerate() {
-        let place = record.port as usize;
-        if place < 32 {
-            cursors[place] = noted(cursors[place], i);
+        if let Some(at) = Address::new(record.port) {
+            cursors[at.index()] = noted(cursors[at.index()], i);
         }
     }
     cursors
-}
-
-// The cursor of a port past a record that was found.
-pub(crate) fn passed(cursor: Cursor, found: Found) -> Cursor
-    requires { 0 < cursor.left }
-    ensures { result ≡ passed_at cursor found }
-{
-    Cursor {
-        next: found.after,
-        left: cursor.left - 1,
-    }
 }
 
 // Finds the next record of a port, from a place on.
 pub(crate) fn next_record(records: &[Record], port: u8, from: usize) -> Option<Found>
     ensures { Nexts port records.now from result }
 {
-    for i in from..records.len() {
-        let record = records[i];
-        if record.port == port {
-            return Some(Found {
-                digits: record.digits,
-                after: i + 1,
-            });
-        }
-    }
-    None
+    let ahead = records.get(from..)?;
+    let passed = ahead.iter().position(|record| record.port == port)?;
+    Some(Found {
+        digits: ahead[passed].digits,
+        after: from + passed + 1,
+    })
 }
