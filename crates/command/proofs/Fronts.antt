@@ -1,6 +1,7 @@
 -- The longest front of a list whose elements pass a test. Assumes nothing.
-use Rattle.std.proofs.Common.{◌≡◌, suc, ◌+◌, ◌<◌, Bool, true, false, cond, List, [], ◌∷◌, length, get_or, take, refl, ap, ◌∙◌, one-add, arith}
-use Rattle.std.specs.List.{prefix_len, AllByRecursion}
+use Rattle.std.proofs.Common.{◌≡◌, ℕ, suc, ◌+◌, Bool, true, false, cond, ◌&&◌, eqb, List, [], ◌∷◌, length, take, refl, ap, ◌∙◌, one-add, arith}
+use Rattle.std.specs.List.{prefix_len, list_all, AllByRecursion}
+use Rattle.std.proofs.lemmas.Bool.Decides.{nat_tests}
 
 module _ {X : Type 0} (p : X → Bool) where
   abbrev pub Passes : List X → Type 0
@@ -15,14 +16,14 @@ module _ {X : Type 0} (p : X → Bool) where
   front_passes [] = tt
   front_passes (x ∷ xs) = passes_step x xs (p x) refl (front_passes xs)
 
-  stops_step : (x : X) (xs : List X) (d : X) (b : Bool) → p x ≡ b → (prefix_len p xs < length xs → p (get_or xs (prefix_len p xs) d) ≡ false) → cond b (1 + prefix_len p xs) 0 < length (x ∷ xs) → p (get_or (x ∷ xs) (cond b (1 + prefix_len p xs) 0) d) ≡ false
-  stops_step x xs d true e h l = rw one-add (h (omega arith))
-  stops_step x xs d false e h l = e
+  whole_step : (b : Bool) (m n : ℕ) (c : Bool) → c ≡ eqb m n → (b && c) ≡ eqb (cond b (1 + m) 0) (suc n)
+  whole_step true m n c e = grind (arith, nat_tests)
+  whole_step false m n c e = grind (arith, nat_tests)
 
-  -- the element behind the front does not pass
-  pub front_stops : (xs : List X) (d : X) → prefix_len p xs < length xs → p (get_or xs (prefix_len p xs) d) ≡ false
-  front_stops [] d l = absurd (omega arith)
-  front_stops (x ∷ xs) d l = stops_step x xs d (p x) refl (front_stops xs d) l
+  -- a test of each element asks whether the front is the whole list
+  pub all_front : (xs : List X) → list_all p xs ≡ eqb (prefix_len p xs) (length xs)
+  all_front [] = refl
+  all_front (x ∷ xs) = whole_step (p x) (prefix_len p xs) (length xs) (list_all p xs) (all_front xs)
 
   -- where each element passes, the front is the whole list
   pub front_all : (xs : List X) → Passes xs → prefix_len p xs ≡ length xs

@@ -1,12 +1,14 @@
 -- Blanks at the ends of bytes. Assumes nothing.
-use Rattle.std.proofs.Common.{◌≡◌, ℕ, suc, ◌+◌, ◌-◌, ◌<◌, Bool, true, false, cond, not, ◌&&◌, ltb, List, [], ◌∷◌, ◌++◌, reverse, length, take, drop, is_some, Some, None, sym, refl, ap, ◌∙◌, one-add, arith}
-use Rattle.std.specs.List.{prefix_len, suffix_len}
+use Rattle.std.proofs.Common.{◌≡◌, ℕ, ◌+◌, ◌-◌, ◌<◌, Bool, true, false, cond, not, ◌&&◌, ltb, List, [], ◌∷◌, ◌++◌, reverse, length, take, drop, is_some, Some, None, sym, refl, ap, ◌∙◌, one-add, arith}
+use Rattle.std.specs.List.{prefix_len, suffix_len, list_all}
 use Rattle.std.proofs.lemmas.List.{append-nil, append_assoc, reverse-append, length-append, length-reverse, take-append-le, take_all}
-use Rattle.std.proofs.lemmas.Bool.{cond-true, cond-false, lt-ltb, le-ltb}
+use Rattle.std.proofs.lemmas.List.Sums.{prefix_len-le-length}
+use Rattle.std.proofs.lemmas.Bool.{cond-true, cond-false}
 use Rattle.std.proofs.lemmas.Bool.Decides.{nat_tests}
 use Rattle.command.specs.Blanks.{blank, skipped, chopped}
 use Rattle.command.specs.Cuts.{other, first_of}
 use Rattle.command.specs.Spellings.{Gap}
+use Rattle.command.proofs.Fronts.{all_front}
 
 -- leading blanks are skipped
 pub skip_gap : (g t : List ℕ) → Gap g → skipped (g ++ t) ≡ skipped t
@@ -55,28 +57,17 @@ closed_append x y h e = ap (prefix_len blank) (reverse-append x y) ∙ front_non
 
 -- no byte that holds or resumes the flow stands there
 abbrev pub clean : List ℕ → Bool
-clean [] = true
-clean (b ∷ t) = other 17 19 b && clean t
+clean t = list_all (other 17 19) t
 
 pub clean_gap : (g t : List ℕ) → Gap g → clean (g ++ t) ≡ clean t
 clean_gap [] t h = refl
 clean_gap (b ∷ g) t h = ap (λ x. x && clean (g ++ t)) h.0.1 ∙ clean_gap g t h.1
 
-pub clean_append : (x y : List ℕ) → clean (x ++ y) ≡ (clean x && clean y)
-clean_append [] y = refl
-clean_append (b ∷ x) y = ap (λ z. other 17 19 b && z) (clean_append x y) ∙ both (other 17 19 b) (clean x) (clean y)
-  where
-    both : (a b c : Bool) → (a && (b && c)) ≡ ((a && b) && c)
-    both true b c = refl
-    both false b c = refl
-
 short_of : (t : List ℕ) → ltb (prefix_len (other 17 19) t) (length t) ≡ not (clean t)
-short_of [] = le-ltb 0 0 (omega arith)
-short_of (b ∷ t) = step (other 17 19 b) (prefix_len (other 17 19) t) (length t) (clean t) (short_of t)
-  where
-    step : (a : Bool) (m n : ℕ) (c : Bool) → ltb m n ≡ not c → ltb (cond a (1 + m) 0) (suc n) ≡ not (a && c)
-    step true m n c e = let same : ltb (1 + m) (suc n) ≡ ltb m n = grind (arith, nat_tests) in same ∙ e
-    step false m n c e = lt-ltb 0 (suc n) (omega arith)
+short_of t =
+    let whole = all_front (other 17 19) t in
+    let within = prefix_len-le-length (other 17 19) t in
+    grind (arith, nat_tests)
 
 some_if : (b : Bool) (n : ℕ) → is_some (cond b (Some n) None) ≡ b
 some_if true n = refl

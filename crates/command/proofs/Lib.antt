@@ -3,7 +3,6 @@ mod Splits
 mod Powers
 mod Sizes
 mod Rows
-mod Words
 mod Options
 mod Quoted
 mod Ranges

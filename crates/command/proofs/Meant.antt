@@ -6,14 +6,15 @@ use Rattle.std.specs.Char.{is_ascii_digit}
 use Rattle.std.specs.List.{prefix_len}
 use Rattle.std.proofs.lemmas.Nat.{div-add-mod'}
 use Rattle.std.proofs.lemmas.List.{take-append-drop, take_all, length-take-le}
-use Rattle.std.proofs.lemmas.List.Sums.{prefix_len-le-length}
+use Rattle.std.proofs.lemmas.List.Sums.{prefix_len-le-length, fold-append}
 use Rattle.std.proofs.lemmas.Bool.{cond-true, cond-false, cases_Bool, eqb-true, eqb-false, eq-eqb, ne_eqb, leb-true, and_parts}
 use Rattle.std.proofs.lemmas.Bool.Decides.{nat_tests}
 use Rattle.command.specs.declared.decimal.Numeral.{Numeral}
 use Rattle.command.specs.Numbers.{more, front, back, numeral, short, power_of, powered, pointed, fraction, unsigned, signed, numeral_of, sign, size, exact, exactly, number_of}
 use Rattle.command.specs.Meanings.{Sign, none, plus, minus, Writing, sign_bytes, point_bytes, power_bytes, written, Digits, Power, Formed, negative, exponent_of, Means, ExactValue}
 use Rattle.command.proofs.Fronts.{front_passes}
-use Rattle.command.proofs.Options.{nothing, either_way, inside}
+use Rattle.std.proofs.lemmas.Option.{same_Some}
+use Rattle.command.proofs.Options.{nothing, either_way}
 use Rattle.command.proofs.Sizes.{tens}
 use Rattle.command.proofs.Written.{numeral_is, written_is}
 
@@ -33,12 +34,12 @@ power_back s m places b t n l e =
     ⊎_elim
     (λ y. let d = short_back t y in
     let same = ap (option_map (numeral s m places)) (sym (cond-true (short t) (Some (fold more 0 t)) None y)) ∙ e in
-    (Some (b, t), (l, d.0, d.1, d.2), refl, sym (inside _ _ same)))
+    (Some (b, t), (l, d.0, d.1, d.2), refl, sym (same_Some _ _ same)))
     (λ z. nothing (ap (option_map (numeral s m places)) (sym (cond-false (short t) (Some (fold more 0 t)) None z)) ∙ e))
     (cases_Bool (short t))
 
 powered_back : (s : Bool) (m places : ℕ) (t : List ℕ) (n : Numeral) → powered s m places t ≡ Some n → Behind s m places t n
-powered_back s m places [] n e = (None, tt, refl, sym (inside _ _ e))
+powered_back s m places [] n e = (None, tt, refl, sym (same_Some _ _ e))
 powered_back s m places (b ∷ t) n e =
     either_way (eqb b 101 || eqb b 69) _ _ n e (λ l k. power_back s m places b t n l k) (λ l k. nothing (sym (cond-false (eqb (length (b ∷ t)) 0) _ _ (ne_eqb (length (b ∷ t)) 0 (λ z. omega arith))) ∙ k))
 
@@ -66,7 +67,7 @@ pointed_back s m t n e =
     ))
 
 fraction_back : (s : Bool) (m : ℕ) (t : List ℕ) (n : Numeral) → fraction s m t ≡ Some n → Split s m t n
-fraction_back s m [] n e = ([], None, tt, tt, refl, sym (inside _ _ e))
+fraction_back s m [] n e = ([], None, tt, tt, refl, sym (same_Some _ _ e))
 fraction_back s m (c ∷ t) n e =
     either_way (eqb c 46) _ _ n e
     (λ y k. let P : ℕ → Type 0 = λ x. Split s m (x ∷ t) n in subst P (sym (eqb-true c 46 y)) (pointed_back s m t n k))
@@ -116,17 +117,13 @@ signed_back (c ∷ t) n l e =
 numeral_back : (t : List ℕ) (n : Numeral) → numeral_of t ≡ Some n → Origin t n
 numeral_back t n e = either_way (leb (length t) 10) _ _ n e (λ y k. signed_back t n (leb-true (length t) 10 y) k) (λ z k. nothing k)
 
-folded_append : (a : ℕ) (x y : List ℕ) → fold more a (x ++ y) ≡ fold more (fold more a x) y
-folded_append a [] y = refl
-folded_append a (b ∷ x) y = folded_append (more a b) x y
-
 -- the exact size of m * 10^e / 10^places
 module _ (m places e : ℕ) where
   sized : (n : ℕ) → size m places e ≡ Some n → n * 10 ^ places ≡ m * 10 ^ e
   sized n h =
       let d = 10 ^ places in
       either_way (eqb (m * 10 ^ e % d) 0) _ _ n h
-      (λ y k. let q = inside _ _ k in
+      (λ y k. let q = same_Some _ _ k in
       let r = eqb-true (m * 10 ^ e % d) 0 y in
       let parts = div-add-mod' (m * 10 ^ e) d in
       ap (λ x. x * d) (sym q) ∙ (let z : m * 10 ^ e / d * d ≡ m * 10 ^ e = omega arith in z))
@@ -140,13 +137,13 @@ module _ (m places e : ℕ) where
 
 some_mapped : (s : Bool) (o : Option ℕ) (z : ℤ) → option_map (sign s) o ≡ Some z → (n : ℕ) × (o ≡ Some n) × (z ≡ sign s n)
 some_mapped s None z e = nothing e
-some_mapped s (Some n) z e = (n, refl, sym (inside _ _ e))
+some_mapped s (Some n) z e = (n, refl, sym (same_Some _ _ e))
 
 means_back : (t : List ℕ) (z : ℤ) (n : Numeral) → exact n ≡ Some z → Origin t n → Means t z
 means_back t z n e b =
     let w = b.0 in
     let s = some_mapped (negative w.sign) _ z (ap exact (sym b.3) ∙ e) in
-    let whole = sized _ _ _ s.0 s.1 ∙ ap (λ v. v * 10 ^ exponent_of w.power) (sym (folded_append 0 w.whole w.decimals)) in
+    let whole = sized _ _ _ s.0 s.1 ∙ ap (λ v. v * 10 ^ exponent_of w.power) (sym (fold-append more 0 w.whole w.decimals)) in
     (w, b.1, b.2, (s.0, whole, s.2))
 
 read_back : (t : List ℕ) (z : ℤ) (o : Option Numeral) → numeral_of t ≡ o → exactly o ≡ Some z → Means t z
@@ -157,7 +154,7 @@ means_read : (t : List ℕ) (z : ℤ) → Means t z → number_of t ≡ Some z
 means_read t z b =
     let w = b.0 in
     let n = b.3.0 in
-    let whole = b.3.1 ∙ ap (λ v. v * 10 ^ exponent_of w.power) (folded_append 0 w.whole w.decimals) in
+    let whole = b.3.1 ∙ ap (λ v. v * 10 ^ exponent_of w.power) (fold-append more 0 w.whole w.decimals) in
     ap number_of (sym b.2) ∙ ap exactly (written_is w b.1)
     ∙ ap (option_map (sign (negative w.sign))) (size_of (numeral_is w).digits (length w.decimals) (exponent_of w.power) n whole) ∙ ap Some (sym b.3.2)
 

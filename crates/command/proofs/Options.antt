@@ -1,13 +1,11 @@
 -- An outcome that is there. Assumes nothing.
-use Rattle.std.proofs.Common.{◌≡◌, ℕ, Bool, true, false, cond, Some, None, Option, refl, arith}
+use Rattle.std.proofs.Common.{◌≡◌, Bool, true, false, cond, Some, None, Option, refl}
+use Rattle.std.proofs.lemmas.Option.{none-some}
 
 pub nothing : {X : Type 0} {Y : Type 0} {x : X} → ◌≡◌ {A = Option X} None (Some x) → Y
-nothing e = absurd (let z : ◌≡◌ {A = ℕ} 0 1 = cc in omega arith)
+nothing {x = x} e = absurd (none-some x e)
 
 -- an outcome under a test is one of its two
 pub either_way : {X : Type 0} {Y : Type 0} (b : Bool) (p q : Option X) (n : X) → cond b p q ≡ Some n → (b ≡ true → p ≡ Some n → Y) → (b ≡ false → q ≡ Some n → Y) → Y
 either_way true p q n e f g = f refl e
 either_way false p q n e f g = g refl e
-
-pub inside : {X : Type 0} (x y : X) → ◌≡◌ {A = Option X} (Some x) (Some y) → x ≡ y
-inside x y e = cc

@@ -7,7 +7,8 @@ use Rattle.std.proofs.lemmas.Bool.{cond-true, eq-eqb, eqb-true, le-leb, leb-true
 use Rattle.command.specs.declared.texts.Text.{Text}
 use Rattle.command.specs.Texts.{alnum, word_of, quoted, text_of, Quotes, ExactText}
 use Rattle.command.proofs.Fronts.{front_passes, front_all}
-use Rattle.command.proofs.Options.{nothing, either_way, inside}
+use Rattle.std.proofs.lemmas.Option.{same_Some}
+use Rattle.command.proofs.Options.{nothing, either_way}
 
 alnum_back : (s : List ℕ) → alnum s ≡ true → AllByRecursion (λ b. is_ascii_alphanumeric b ≡ true) s
 alnum_back s h =
@@ -30,7 +31,7 @@ word_back t x s same e =
     either_way (leb 1 (length s) && (leb (length s) 7 && alnum s)) _ _ x e
     (λ y k. let p = and_parts (leb 1 (length s)) (leb (length s) 7 && alnum s) y in
     let q = and_parts (leb (length s) 7) (alnum s) p.1 in
-    (s, alnum_back s q.1, leb-true 1 (length s) p.0, leb-true (length s) 7 q.0, same, sym (inside _ _ k)))
+    (s, alnum_back s q.1, leb-true 1 (length s) p.0, leb-true (length s) 7 q.0, same, sym (same_Some _ _ k)))
     (λ z k. nothing k)
 
 quotes_back : (t : List ℕ) (x : Text) → quoted t ≡ true → word_of (take (length t - 2) (drop 1 t)) ≡ Some x → Quotes t x

@@ -2,6 +2,8 @@
 use Rattle.std.proofs.Common.{◌≡◌, ℕ, ◌+◌, ◌<◌, Bool, true, false, cond, not, ◌&&◌, eqb, List, [], ◌∷◌, ◌++◌, length, take, drop, is_some, Some, None, Ok, Err, Option, Result, sym, refl, ap, ◌∙◌, arith}
 use Rattle.std.specs.List.{prefix_len, suffix_len}
 use Rattle.std.proofs.lemmas.List.{append_assoc, append-nil, length-append}
+use Rattle.std.proofs.lemmas.List.Folds.{list_all-append}
+use Rattle.std.proofs.Math.Bool.{and-true}
 use Rattle.std.proofs.lemmas.Bool.{cond-false, ne_eqb, le-ltb, and_left, both_ways}
 use Rattle.std.proofs.ByRecursion.{All-append}
 use Rattle.fault.specs.declared.causes.Cause.{Cause}
@@ -18,11 +20,7 @@ use Rattle.command.specs.Blanks.{blank, skipped, chopped, trimmed}
 use Rattle.command.specs.Cuts.{other, first_of}
 use Rattle.command.specs.Readings.{initials_of, behind_of, asks, form_of, parameter_of, place_of, sense_of, filled, ordered, order_of, selects, select_of, commanded, selected, allowed, reading}
 use Rattle.command.specs.Spellings.{Spelling, mark, spelled, Gap, Unasked, Sound, unplaced}
-use Rattle.command.proofs.Gaps.{skip_gap, skip_none, skip_all, chop_closed, chop_gap, closed_push, closed_append, clean, clean_gap, clean_append, flow_of}
-
-and_true : (x : Bool) → (x && true) ≡ x
-and_true true = refl
-and_true false = refl
+use Rattle.command.proofs.Gaps.{skip_gap, skip_none, skip_all, chop_closed, chop_gap, closed_push, closed_append, clean, clean_gap, flow_of}
 
 -- a byte at the front is no blank
 head_none : (b : ℕ) (t : List ℕ) → prefix_len blank (b ∷ t) ≡ 0 → blank b ≡ false
@@ -183,10 +181,10 @@ module _ (s : Spelling) (sound : Sound s) where
   clean_is =
       let i = s.first ∷ s.second ∷ s.third ∷ [] in
       let after = ap clean (sym (append-nil s.after)) ∙ clean_gap s.after [] sound.gaps.3 in
-      let end = clean_append s.parameter s.after ∙ ap (λ x. clean s.parameter && x) after ∙ and_true (clean s.parameter) in
+      let end = list_all-append (other 17 19) s.parameter s.after ∙ ap (λ x. clean s.parameter && x) after ∙ and-true (clean s.parameter) in
       let last = s.parameter ++ s.after in
       let tail = mark s.form ++ (s.inner ++ last) in
-      clean_gap s.before (i ++ (s.behind ++ tail)) sound.gaps.0 ∙ clean_append i (s.behind ++ tail)
+      clean_gap s.before (i ++ (s.behind ++ tail)) sound.gaps.0 ∙ list_all-append (other 17 19) i (s.behind ++ tail)
       ∙ ap (λ x. clean i && x) (clean_gap s.behind tail sound.gaps.1 ∙ clean_mark s.form (s.inner ++ last) ∙ clean_gap s.inner last sound.gaps.2 ∙ end)
 
   order_is : unplaced (commanded (order_of (spelled s))) ≡ orderly (sense_of (s.first ∷ s.second ∷ s.third ∷ []) s.form) s.form s.parameter

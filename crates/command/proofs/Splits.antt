@@ -2,18 +2,10 @@
 use Rattle.std.proofs.Common.{◌≡◌, ℕ, ◌<◌, ◌≤◌, true, ltb, List, ◌++◌, length, get_or, take, Some, None, sym, ap, ◌∙◌, subst, arith}
 use Rattle.std.specs.List.{prefix_len, AllByRecursion}
 use Rattle.std.proofs.lemmas.List.{take-append-drop, take_all, drop_more, length-take-le}
-use Rattle.std.proofs.lemmas.Bool.{lt-ltb, le-ltb, cond-true, cond-false, cond_both, ltb-true, ltb-false}
-use Rattle.command.specs.Cuts.{other, first_of, plain, cut_at, cut_of, Cuts}
-use Rattle.command.proofs.Fronts.{front_passes, front_stops}
-
-module _ (x y : ℕ) (bs : List ℕ) where
-  pub first_at : (n : ℕ) → prefix_len (other x y) bs ≡ n → n < length bs → first_of x y bs ≡ Some n
-  unfolding first_of
-  first_at n e h = cond-true _ _ _ (lt-ltb _ (length bs) (omega arith)) ∙ ap Some e
-
-  pub first_none : length bs ≤ prefix_len (other x y) bs → first_of x y bs ≡ None
-  unfolding first_of
-  first_none h = cond-false _ _ _ (le-ltb _ (length bs) (omega arith))
+use Rattle.std.proofs.lemmas.List.Sums.{prefix_len_stops}
+use Rattle.std.proofs.lemmas.Bool.{cond_both, ltb-true, ltb-false}
+use Rattle.command.specs.Cuts.{first_of, plain, cut_at, cut_of, Cuts}
+use Rattle.command.proofs.Fronts.{front_passes}
 
 -- what is cut off at the first end character keeps the law of splitting
 module _ (bs : List ℕ) where
@@ -22,7 +14,7 @@ module _ (bs : List ℕ) where
       let n = prefix_len plain bs in
       let whole = sym (take-append-drop n bs) ∙ ap (λ t. take n bs ++ t) (drop_more bs n 0 h) in
       let long = length-take-le n bs (omega arith) in
-      (front_passes plain bs, (get_or bs n 0, front_stops plain bs 0 h, whole), omega arith)
+      (front_passes plain bs, (get_or bs n 0, prefix_len_stops plain bs 0 h, whole), omega arith)
 
   cuts_none : length bs ≤ prefix_len plain bs → Cuts bs (cut_at bs None)
   cuts_none h = let P : List ℕ → Type 0 = λ t. AllByRecursion (λ b. plain b ≡ true) t in subst P (take_all (prefix_len plain bs) bs h) (front_passes plain bs)

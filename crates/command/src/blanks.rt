@@ -1,5 +1,5 @@
 // Parts of a byte run between its blanks.
-ghost use Rattle.std.specs.Prelude.{◌≡◌, ◌-◌, ◌≤◌, length, take, drop};
+ghost use Rattle.std.specs.Prelude.{◌≡◌, ◌≤◌, length, take, drop};
 ghost use Rattle.std.specs.List.{prefix_len, suffix_len};
 ghost use Rattle.command.specs.Blanks.{blank, skipped, chopped, trimmed};
 
@@ -18,23 +18,15 @@ fn indent(bytes: &[u8]) -> usize
     ensures value { result ≡ prefix_len blank bytes.now }
     ensures within { result ≤ length bytes.now }
 {
-    let mut n = 0;
-    while n < bytes.len() && is_blank(bytes[n]) {
-        n += 1;
-    }
-    n
+    bytes.iter().take_while(|b| is_blank(**b)).count()
 }
 
-// How many bytes stand before the blanks at the end.
-fn extent(bytes: &[u8]) -> usize
-    ensures value { result ≡ length bytes.now - suffix_len blank bytes.now }
+// How many blanks `bytes` ends with.
+fn outdent(bytes: &[u8]) -> usize
+    ensures value { result ≡ suffix_len blank bytes.now }
     ensures within { result ≤ length bytes.now }
 {
-    let mut n = bytes.len();
-    while n > 0 && is_blank(bytes[n - 1]) {
-        n -= 1;
-    }
-    n
+    bytes.iter().rev().take_while(|b| is_blank(**b)).count()
 }
 
 // The part from the first byte that is no blank.
@@ -42,14 +34,14 @@ pub(crate) fn skip(bytes: &[u8]) -> &[u8]
     ensures value { result.now ≡ skipped bytes.now }
     ensures within { length result.now ≤ length bytes.now }
 {
-    bytes.split_at(indent(bytes)).1
+    &bytes[indent(bytes)..]
 }
 
 // The part up to the last byte that is no blank.
 pub(crate) fn chop(bytes: &[u8]) -> &[u8]
     ensures { result.now ≡ chopped bytes.now }
 {
-    bytes.split_at(extent(bytes)).0
+    &bytes[..bytes.len() - outdent(bytes)]
 }
 
 // The part from the first to the last byte that is no blank.
@@ -65,9 +57,5 @@ pub(crate) fn part(bytes: &[u8], n: usize) -> (&[u8], &[u8])
     ensures back { result.1.now ≡ drop n bytes.now }
     ensures within { length result.1.now ≤ length bytes.now }
 {
-    if n <= bytes.len() {
-        bytes.split_at(n)
-    } else {
-        bytes.split_at(bytes.len())
-    }
+    bytes.split_at(n.min(bytes.len()))
 }

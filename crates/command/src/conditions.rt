@@ -10,10 +10,7 @@ use fault::{Cause, Fault};
 fn is_zero(argument: Argument) -> bool
     ensures { result ≡ zero_given argument }
 {
-    match argument {
-        Argument::Number(n) => n == 0,
-        Argument::Absent | Argument::Text(_) => false,
-    }
+    matches!(argument, Argument::Number(0))
 }
 
 // Whether an entry with this argument needs the password.
@@ -28,6 +25,7 @@ fn needed(need: Need, argument: Argument) -> bool
 }
 
 // Whether an order needs the password; a query never does.
+#[tactic(auto, unfolding(crate::specs::Conditions::needs_password))]
 pub fn needs_password(order: &Order) -> bool
     ensures { result ≡ needs_password order.now }
 {
@@ -48,6 +46,7 @@ fn above(most: Option<i32>, argument: Argument) -> bool
 }
 
 // An order as a broadcast hears it: a number above the highest in a broadcast is refused.
+#[tactic(auto, unfolding(crate::specs::Conditions::broadcast_of))]
 pub fn in_broadcast(order: Order) -> Result<Order, Fault>
     ensures { result ≡ broadcast_of order }
 {

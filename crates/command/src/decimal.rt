@@ -1,10 +1,10 @@
 // Reads a parameter's number.
-ghost use Rattle.std.specs.Prelude.{◌≡◌, ◌+◌, ◌*◌, ◌^◌, ◌≤◌, length, IfSome, fold};
+ghost use Rattle.std.specs.Prelude.{◌≡◌, ℕ, ◌+◌, ◌*◌, ◌^◌, ◌≤◌, Bool, length, IfSome, MatchOption, fold};
 ghost use Rattle.std.specs.Option.{option_map};
 ghost use Rattle.std.specs.Char.{is_ascii_digit};
 ghost use Rattle.std.specs.List.{prefix_len};
 ghost use Rattle.command.specs.Meanings.{ExactValue};
-ghost use Rattle.command.specs.Numbers.{more, front, back, short as short_of, power_of, powered as powered_of, pointed as pointed_of, fraction as fraction_of, unsigned as unsigned_of, numeral_of, sign as sign_of, size as size_of, number_of, capped, clamped};
+ghost use Rattle.command.specs.Numbers.{more, front, back, numeral, short as short_of, power_of, powered as powered_of, fraction as fraction_of, unsigned as unsigned_of, signed as signed_of, sign as sign_of, size as size_of, number_of, capped, clamped};
 
 // A number has at most this many bytes.
 const LONGEST: usize = 10;
@@ -24,6 +24,14 @@ pub(crate) struct Numeral {
     pub exponent: u32,
 }
 
+// How many digits `text` begins with.
+fn digits_len(text: &[u8]) -> usize
+    ensures value { result ≡ prefix_len is_ascii_digit text.now }
+    ensures within { result ≤ length text.now }
+{
+    text.iter().take_while(|b| b.is_ascii_digit()).count()
+}
+
 // The digits that `text` begins with, and what follows them.
 fn leading_digits(text: &[u8]) -> (&[u8], &[u8])
     ensures digits { result.0.now ≡ front text.now }
@@ -31,14 +39,11 @@ fn leading_digits(text: &[u8]) -> (&[u8], &[u8])
     ensures count { length result.0.now ≡ prefix_len is_ascii_digit text.now }
     ensures within { length result.0.now + length result.1.now ≡ length text.now }
 {
-    let mut n = 0;
-    while n < text.len() && text[n].is_ascii_digit() {
-        n += 1;
-    }
-    text.split_at(n)
+    text.split_at(digits_len(text))
 }
 
 // The number that digits write behind those of `start`.
+#[tactic(auto, using(crate::proofs::Powers::tenfold, crate::proofs::Powers::tens_up, std::proofs::lemmas::List::Sums::fold_more))]
 fn joined(start: u64, digits: &[u8]) -> u64
     requires { (start + 23) * 10 ^ length digits.now ≤ 23 * 10 ^ 10 }
     ensures value { result ≡ fold more start digits.now }
@@ -46,17 +51,16 @@ fn joined(start: u64, digits: &[u8]) -> u64
 {
     let mut v = start;
     for b in digits {
-        v = 10 * v + b.saturating_sub(b'0') as u64;
+        v = 10 * v + u64::from(b.saturating_sub(b'0'));
     }
     v
 }
 
 // Whether `text` is one or two digits and nothing else.
 fn short(text: &[u8]) -> bool
-    ensures value { result ≡ short_of text.now }
+    ensures { result ≡ short_of text.now }
 {
-    let (digits, _) = leading_digits(text);
-    digits.len() == text.len() && (text.len() == 1 || text.len() == 2)
+    digits_len(text) == text.len() && matches!(text.len(), 1 | 2)
 }
 
 // The power of ten behind e or E: one or two digits.
@@ -70,107 +74,83 @@ fn power(text: &[u8]) -> Option<u32>
     }
 }
 
-// What stands behind the digits: nothing, or e or E with a power of ten.
-fn powered(minus: bool, digits: u64, places: u32, text: &[u8]) -> Option<Numeral>
-    requires { places ≤ 10 }
-    ensures value { result ≡ powered_of minus digits places text.now }
-    ensures few { IfSome result (λ n. n.places ≤ 10) }
+// The power of ten that stands behind the digits: 0 where nothing does.
+fn exponent(text: &[u8]) -> Option<u32>
+    ensures { (minus : Bool) (digits places : ℕ) → powered_of minus digits places text.now ≡ option_map (numeral minus digits places) result }
 {
     match text {
-        [b'e' | b'E', behind @ ..] => {
-            let exponent = power(behind)?;
-            Some(Numeral {
-                minus,
-                digits,
-                places,
-                exponent,
-            })
-        }
-        [] => Some(Numeral {
-            minus,
-            digits,
-            places,
-            exponent: 0,
-        }),
+        [] => Some(0),
+        [b'e' | b'E', behind @ ..] => power(behind),
         _ => None,
     }
 }
 
-// Digits behind the point, at least one, and what follows them.
-fn pointed(minus: bool, start: u64, text: &[u8]) -> Option<Numeral>
-    requires short { length text.now ≤ 10 }
-    requires bound { (start + 23) * 10 ^ length text.now ≤ 23 * 10 ^ 10 }
-    ensures value { result ≡ pointed_of minus start text.now }
-    ensures few { IfSome result (λ n. n.places ≤ 10) }
+// The digits behind a point, at least one, and what follows them; no digits without a point.
+fn decimals(text: &[u8]) -> Option<(&[u8], &[u8])>
+    ensures value { (minus : Bool) (start : ℕ) → MatchOption result (fraction_of minus start text.now ≡ None) (λ p. fraction_of minus start text.now ≡ powered_of minus (fold more start p.0.now) (length p.0.now) p.1.now) }
+    ensures within { IfSome result (λ p. length p.0.now + length p.1.now ≤ length text.now) }
 {
-    let (decimals, rest) = leading_digits(text);
-    if decimals.is_empty() {
+    let [b'.', behind @ ..] = text else {
+        return Some(text.split_at(0));
+    };
+    let (digits, rest) = leading_digits(behind);
+    if digits.is_empty() {
         return None;
     }
-    let digits = joined(start, decimals);
-    powered(minus, digits, decimals.len() as u32, rest)
-}
-
-// What follows the first digits: a point with digits, or none.
-fn fraction(minus: bool, start: u64, text: &[u8]) -> Option<Numeral>
-    requires short { length text.now ≤ 10 }
-    requires bound { (start + 23) * 10 ^ length text.now ≤ 23 * 10 ^ 10 }
-    ensures value { result ≡ fraction_of minus start text.now }
-    ensures few { IfSome result (λ n. n.places ≤ 10) }
-{
-    match text {
-        [b'.', rest @ ..] => pointed(minus, start, rest),
-        _ => powered(minus, start, 0, text),
-    }
+    Some((digits, rest))
 }
 
 // A number behind its sign: a digit is needed there.
+#[tactic(auto, using(crate::proofs::Powers::tens_join), unfolding(crate::specs::Numbers::unsigned))]
 fn unsigned(minus: bool, text: &[u8]) -> Option<Numeral>
     requires { length text.now ≤ 10 }
     ensures value { result ≡ unsigned_of minus text.now }
     ensures few { IfSome result (λ n. n.places ≤ 10) }
 {
-    let (first, rest) = leading_digits(text);
+    let (first, behind) = leading_digits(text);
     if first.is_empty() {
         return None;
     }
-    fraction(minus, joined(0, first), rest)
+    let (decimals, rest) = decimals(behind)?;
+    let exponent = exponent(rest)?;
+    Some(Numeral {
+        minus,
+        digits: joined(joined(0, first), decimals),
+        places: decimals.len() as u32,
+        exponent,
+    })
 }
 
-// The number that `text` writes, taken apart, where it has the form of one.
-fn parse(text: &[u8]) -> Option<Numeral>
-    ensures value { result ≡ numeral_of text.now }
-    ensures few { IfSome result (λ n. n.places ≤ 10) }
+// Whether a minus stands first, and what follows the sign.
+fn signed(text: &[u8]) -> (bool, &[u8])
+    ensures value { unsigned_of result.0 result.1.now ≡ signed_of text.now }
+    ensures within { length result.1.now ≤ length text.now }
 {
-    if text.len() > LONGEST {
-        return None;
-    }
     match text {
-        [b'-', rest @ ..] => unsigned(true, rest),
-        [b'+', rest @ ..] => unsigned(false, rest),
-        _ => unsigned(false, text),
+        [b'-', rest @ ..] => (true, rest),
+        [b'+', rest @ ..] => (false, rest),
+        _ => (false, text),
     }
 }
 
-// The size of digits * 10^exponent / 10^places where that is whole, capped.
-fn whole(digits: u64, places: u32, exponent: u32) -> Option<u64>
-    requires { places ≤ 10 }
-    ensures value { result ≡ option_map capped (size_of digits places exponent) }
-    ensures bound { IfSome result (λ n. n ≤ 1000000000000) }
-{
-    if places <= exponent {
-        let shift = (exponent - places).min(SHIFT);
-        return Some(digits.saturating_mul(10u64.pow(shift)).min(CAP));
-    }
-    let by = 10u64.pow(places - exponent);
-    if digits % by == 0 {
-        Some((digits / by).min(CAP))
-    } else {
-        None
+impl Numeral {
+    // The size of digits * 10^exponent / 10^places where that is whole, capped.
+    #[tactic(auto, using(crate::proofs::Sizes::tens, crate::proofs::Sizes::size_up, crate::proofs::Sizes::size_down, crate::proofs::Sizes::cap_shift))]
+    fn size(self) -> Option<u64>
+        requires { self.places ≤ 10 }
+        ensures value { result ≡ option_map capped (size_of self.digits self.places self.exponent) }
+        ensures bound { IfSome result (λ n. n ≤ 1000000000000) }
+    {
+        if self.places <= self.exponent {
+            let shift = (self.exponent - self.places).min(SHIFT);
+            return Some(self.digits.saturating_mul(10u64.pow(shift)).min(CAP));
+        }
+        let by = 10u64.pow(self.places - self.exponent);
+        (self.digits % by == 0).then_some((self.digits / by).min(CAP))
     }
 }
 
-// The same with its sign.
+// A size with its sign.
 fn with_sign(minus: bool, size: u64) -> i64
     requires { size ≤ 1000000000000 }
     ensures { result ≡ sign_of minus size }
@@ -183,7 +163,10 @@ pub fn number(text: &[u8]) -> Option<i64>
     ensures value { result ≡ option_map clamped (number_of text.now) }
     ensures exact { ExactValue text.now }
 {
-    let n = parse(text)?;
-    let size = whole(n.digits, n.places, n.exponent)?;
-    Some(with_sign(n.minus, size))
+    if text.len() > LONGEST {
+        return None;
+    }
+    let (minus, rest) = signed(text);
+    let n = unsigned(minus, rest)?;
+    Some(with_sign(n.minus, n.size()?))
 }

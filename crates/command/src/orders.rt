@@ -2,7 +2,7 @@
 use crate::texts::Text;
 
 // The commands by their initials.
-#[derive(Clone, Copy)]
+#[derive(Clone, Copy, Debug, PartialEq, Eq)]
 pub enum Mnemonic {
     Cof,
     Icr,
@@ -22,14 +22,14 @@ pub enum Mnemonic {
 }
 
 // A command enters something, or with a question mark asks for it.
-#[derive(Clone, Copy)]
+#[derive(Clone, Copy, Debug, PartialEq, Eq)]
 pub enum Form {
     Entry,
     Query,
 }
 
 // What stands in a command's parameter.
-#[derive(Clone, Copy)]
+#[derive(Clone, Copy, Debug, PartialEq, Eq)]
 pub enum Argument {
     Absent,
     Number(i32),
@@ -37,7 +37,7 @@ pub enum Argument {
 }
 
 // A command that may be obeyed. `place` is the first byte of its parameter, or the command's length where it has none.
-#[derive(Clone, Copy)]
+#[derive(Clone, Copy, Debug, PartialEq, Eq)]
 pub struct Order {
     pub name: Mnemonic,
     pub form: Form,
@@ -46,7 +46,7 @@ pub struct Order {
 }
 
 // What the bytes of one command are: blank, a select with its pair of digits, or another command.
-#[derive(Clone, Copy)]
+#[derive(Clone, Copy, Debug, PartialEq, Eq)]
 pub enum Heard {
     Blank,
     Select(u8),

@@ -1,13 +1,13 @@
 // Reads one command, all its bytes.
 ghost use Rattle.std.specs.Prelude.{◌≡◌, ◌≤◌, length};
-ghost use Rattle.command.specs.Readings.{asks as asks_of, initials_of, form_of, rest_of, sense_of, filled as filled_of, order_of, select_of, allowed as allowed_of, checked, reading};
+ghost use Rattle.command.specs.Readings.{initials_of, form_of, rest_of, sense_of, order_of, select_of, checked, reading};
 ghost use Rattle.command.specs.Spellings.{ReadsAlike};
 ghost use Rattle.command.specs.Table.{WholeTable};
 
 use crate::arguments::argument_in;
 use crate::blanks::{chop, part, skip, trim};
 use crate::cut::position;
-use crate::orders::{Argument, Form, Heard, Mnemonic, Order};
+use crate::orders::{Form, Heard, Mnemonic, Order};
 use crate::table::{Kind, find, kind_of};
 use fault::{Cause, Fault};
 
@@ -27,16 +27,6 @@ struct Parts<'a> {
     rest: &'a [u8],
 }
 
-// Whether a question mark stands first.
-fn asks(bytes: &[u8]) -> bool
-    ensures { result ≡ asks_of bytes.now }
-{
-    match bytes {
-        [b'?', ..] => true,
-        _ => false,
-    }
-}
-
 // Takes a command apart; blanks may stand around each part.
 fn taken_apart(command: &[u8]) -> Parts<'_>
     ensures initials { result.initials.now ≡ initials_of command.now }
@@ -45,24 +35,22 @@ fn taken_apart(command: &[u8]) -> Parts<'_>
     ensures within { length result.rest.now ≤ length command.now }
 {
     let (initials, tail) = part(skip(command), 3);
-    let behind = skip(tail);
-    if asks(behind) {
-        let (_, rest) = part(behind, 1);
-        Parts {
+    match skip(tail) {
+        [b'?', rest @ ..] => Parts {
             initials,
             form: Form::Query,
             rest: skip(rest),
-        }
-    } else {
-        Parts {
+        },
+        rest => Parts {
             initials,
             form: Form::Entry,
-            rest: behind,
-        }
+            rest,
+        },
     }
 }
 
 // The command with these initials and what its form takes; none where the initials are unknown or it has no such form.
+#[tactic(auto, unfolding(crate::specs::Readings::sense_of))]
 fn sense(initials: &[u8], form: Form) -> Option<(Mnemonic, Kind)>
     ensures { result ≡ sense_of initials.now form }
 {
@@ -71,38 +59,27 @@ fn sense(initials: &[u8], form: Form) -> Option<(Mnemonic, Kind)>
     Some((row.name, kind))
 }
 
-// A command with its argument, or its refusal at the parameter's place.
-fn filled(
-    name: Mnemonic,
-    form: Form,
-    place: usize,
-    argument: Result<Argument, Cause>,
-) -> Result<Order, Fault>
-    ensures { result ≡ filled_of name form place argument }
-{
-    match argument {
-        Ok(argument) => Ok(Order {
-            name,
-            form,
-            argument,
-            place,
-        }),
-        Err(cause) => Err(cause.at(place)),
-    }
-}
-
 // Reads a command that is neither blank nor a select.
+#[tactic(auto, unfolding(crate::specs::Readings::order_of))]
 fn order_in(command: &[u8]) -> Result<Order, Fault>
     ensures { result ≡ order_of command.now }
 {
-    let parts = taken_apart(command);
-    match sense(parts.initials, parts.form) {
-        None => Err(Cause::UnknownCommand.at(command.len() - skip(command).len())),
-        Some((name, kind)) => {
-            let place = command.len() - parts.rest.len();
-            filled(name, parts.form, place, argument_in(kind, chop(parts.rest)))
-        }
-    }
+    let Parts {
+        initials,
+        form,
+        rest,
+    } = taken_apart(command);
+    let Some((name, kind)) = sense(initials, form) else {
+        return Err(Cause::UnknownCommand.at(command.len() - skip(command).len()));
+    };
+    let place = command.len() - rest.len();
+    let argument = argument_in(kind, chop(rest)).map_err(|cause| cause.at(place))?;
+    Ok(Order {
+        name,
+        form,
+        argument,
+        place,
+    })
 }
 
 // The pair of digits of a select without the blanks around it: S or s and two digits.
@@ -117,11 +94,14 @@ fn select_in(bytes: &[u8]) -> Option<u8>
     }
 }
 
-// Reads a command of a lawful length: `flow` is the place of its first flow byte.
-fn allowed(command: &[u8], flow: Option<usize>) -> Result<Heard, Fault>
-    ensures { result ≡ allowed_of command.now flow }
+// What the bytes of one command are, or the refusal of the first check that fails.
+fn heard_in(command: &[u8]) -> Result<Heard, Fault>
+    ensures { result ≡ checked command.now }
 {
-    if let Some(place) = flow {
+    if command.len() > LONGEST {
+        return Err(Cause::LongCommand.at(LONGEST));
+    }
+    if let Some(place) = position(command, XON, XOFF) {
         return Err(Cause::UnknownCommand.at(place));
     }
     let bytes = trim(command);
@@ -134,17 +114,8 @@ fn allowed(command: &[u8], flow: Option<usize>) -> Result<Heard, Fault>
     Ok(Heard::Command(order_in(command)?))
 }
 
-// What the bytes of one command are, or the refusal of the first check that fails.
-fn heard_in(command: &[u8]) -> Result<Heard, Fault>
-    ensures { result ≡ checked command.now }
-{
-    if command.len() > LONGEST {
-        return Err(Cause::LongCommand.at(LONGEST));
-    }
-    allowed(command, position(command, XON, XOFF))
-}
-
 // Reads one command, all its bytes.
+#[tactic(auto, using(crate::proofs::Cases::reads_alike, crate::proofs::Rows::whole_table), unfolding(crate::specs::Readings::reading))]
 pub fn read(command: &[u8]) -> Result<Heard, Fault>
     ensures value { result ≡ reading command.now }
     ensures alike { ReadsAlike }

@@ -1,15 +1,34 @@
 // The constant table of commands: initials, parameter kind of each form, limits and password need.
-ghost use Rattle.std.specs.Prelude.{◌≡◌, ◌<◌, slice_index_or};
+ghost use Rattle.std.specs.Prelude.{◌≡◌, ◌<◌, true, ℤ, FitsSigned};
+ghost use Rattle.std.specs.Int.{w32};
+ghost use Rattle.command.specs.Arguments.{admits};
 ghost use Rattle.command.specs.Table.{rows as commands, row_of, place_of, alike as alike_of, lookup, kind_of};
 
 use crate::orders::{Form, Mnemonic};
 
 // The numbers that a parameter may be: all from the lowest to the highest, or those of a set.
+// Kept: (d) a variant for each of the two sets: a set by reference has an address too, which the defined table cannot state.
 #[derive(Clone, Copy)]
 pub(crate) enum Limits {
     Between(i32, i32),
     Formats,
     Steps,
+}
+
+impl Limits {
+    // Whether the limits admit `n`; all that they admit fits 32 bits.
+    pub(crate) fn admits(self, n: i64) -> bool
+        ensures value { result ≡ admits self n }
+        ensures small { (m : ℤ) → admits self m ≡ true → FitsSigned w32 m }
+    {
+        match self {
+            Limits::Between(lowest, highest) => {
+                (i64::from(lowest)..=i64::from(highest)).contains(&n)
+            }
+            Limits::Formats => FORMATS.contains(&n),
+            Limits::Steps => STEPS.contains(&n),
+        }
+    }
 }
 
 // What a form of a command takes as its parameter.
@@ -42,10 +61,10 @@ pub(crate) struct Row {
 }
 
 // The output formats, and each with 32 added, which drops the line end.
-pub(crate) const FORMATS: [i32; 16] = [0, 2, 3, 4, 6, 8, 9, 12, 32, 34, 35, 36, 38, 40, 41, 44];
+const FORMATS: [i64; 16] = [0, 2, 3, 4, 6, 8, 9, 12, 32, 34, 35, 36, 38, 40, 41, 44];
 
 // The display steps.
-pub(crate) const STEPS: [i32; 7] = [1, 2, 5, 10, 20, 50, 100];
+const STEPS: [i64; 7] = [1, 2, 5, 10, 20, 50, 100];
 
 const ROWS: [Row; 15] = [
     Row {
@@ -181,22 +200,19 @@ fn table() -> &'static [Row; 15]
 fn alike(initials: [u8; 3], bytes: &[u8]) -> bool
     ensures { result ≡ alike_of initials bytes.now }
 {
-    bytes.len() == 3
-        && initials[0] == bytes[0].to_ascii_uppercase()
-        && initials[1] == bytes[1].to_ascii_uppercase()
-        && initials[2] == bytes[2].to_ascii_uppercase()
+    match bytes {
+        [x, y, z] => initials == [x, y, z].map(|b| b.to_ascii_uppercase()),
+        _ => false,
+    }
 }
 
 // The first of some rows with these initials, in either case.
 fn find_in(rows: &[Row], initials: &[u8]) -> Option<Row>
     ensures { result ≡ lookup rows.now initials.now }
 {
-    for row in rows {
-        if alike(row.initials, initials) {
-            return Some(*row);
-        }
-    }
-    None
+    rows.iter()
+        .find(|row| alike(row.initials, initials))
+        .copied()
 }
 
 // The row with these initials, in either case.
@@ -214,19 +230,11 @@ fn place(name: Mnemonic) -> usize
     name as usize
 }
 
-// The row at a place.
-fn row_at(at: usize) -> Row
-    requires { at < 15 }
-    ensures { result ≡ slice_index_or commands at result }
-{
-    table()[at]
-}
-
 // The row of a command.
 pub(crate) fn row_of(name: Mnemonic) -> Row
     ensures { result ≡ row_of name }
 {
-    row_at(place(name))
+    table()[place(name)]
 }
 
 // What the command of a row takes in a form, if it has that form.

@@ -1,13 +1,13 @@
 // A text and its reader.
 ghost use Rattle.std.specs.Prelude.{◌≡◌, ◌≤◌, length, IfSome, Decides};
-ghost use Rattle.command.specs.Texts.{padded as padded_of, alnum as alnum_of, letters_of, word_of, quoted as quoted_of, text_of, same_text, ExactText};
-ghost use Rattle.std.specs.Str.{bytes_eq};
+ghost use Rattle.command.specs.Texts.{padded as padded_of, alnum as alnum_of, letters_of, word_of, text_of, same_text, ExactText};
 
 // A text has at most this many letters and digits.
 const LONGEST: usize = 7;
 
 // Letters and digits, where case counts. The bytes past the length are 0, so equal texts are equal in every field.
-#[derive(Clone, Copy)]
+// Kept: (a) bytes with a length beside them, since each of 32 scales holds its password by value, in fixed memory.
+#[derive(Clone, Copy, Debug, PartialEq, Eq)]
 pub struct Text {
     pub bytes: [u8; 7],
     pub length: usize,
@@ -17,12 +17,7 @@ pub struct Text {
 fn alnum(bytes: &[u8]) -> bool
     ensures { result ≡ alnum_of bytes.now }
 {
-    for b in bytes {
-        if !b.is_ascii_alphanumeric() {
-            return false;
-        }
-    }
-    true
+    bytes.iter().all(|b| b.is_ascii_alphanumeric())
 }
 
 // The letters, then zeros.
@@ -31,7 +26,7 @@ fn padded(letters: &[u8]) -> [u8; 7]
     ensures { result ≡ padded_of letters.now }
 {
     let mut bytes = [0; 7];
-    bytes[0..letters.len()].copy_from_slice(letters);
+    bytes[..letters.len()].copy_from_slice(letters);
     bytes
 }
 
@@ -55,41 +50,18 @@ impl Text {
         ensures value { result ≡ same_text self other }
         ensures whole { Decides result (self ≡ other) }
     {
-        equal(self, other)
-    }
-}
-
-// Whether two texts agree in length and in every byte.
-fn equal(a: Text, b: Text) -> bool
-    ensures { result ≡ same_text a b }
-{
-    a.length == b.length && same_bytes(&a.bytes, &b.bytes)
-}
-
-// Whether two byte runs are the same.
-fn same_bytes(a: &[u8], b: &[u8]) -> bool
-    ensures { result ≡ bytes_eq a.now b.now }
-{
-    a == b
-}
-
-// Whether `bytes` stand in double quotes.
-fn quoted(bytes: &[u8]) -> bool
-    ensures { result ≡ quoted_of bytes.now }
-{
-    match bytes {
-        [b'"', .., b'"'] => true,
-        _ => false,
+        self == other
     }
 }
 
 // The text that `bytes` write in double quotes.
+#[tactic(auto, using(crate::proofs::Quoted::exact_text), unfolding(crate::specs::Texts::text_of))]
 pub fn quoted_text(bytes: &[u8]) -> Option<Text>
     ensures value { result ≡ text_of bytes.now }
     ensures exact { ExactText bytes.now }
 {
-    if !quoted(bytes) {
-        return None;
+    match bytes {
+        [b'"', letters @ .., b'"'] => Text::new(letters),
+        _ => None,
     }
-    Text::new(&bytes[1..bytes.len() - 1])
 }

@@ -1,15 +1,14 @@
-use Rattle.std.proofs.Common.{sym, refl, ◌∙◌, arith}
-use Rattle.command.proofs.Rows.{lookup_no, lookup_yes, lookup_all}
+use Rattle.std.proofs.Common.{◌∙◌, rules, tests}
+use Rattle.std.proofs.lemmas.Iterator.{YieldsList-from_slice}
+use Rattle.std.proofs.lemmas.Iterator.Search.{find_from_yields_List}
+use Rattle.command.specs.declared.table.Row.{Row}
+use Rattle.command.specs.Table.{alike}
+use Rattle.command.proofs.Rows.{find_is}
 use Rattle.command.proofs.table.find_in.Goals as goal
 
-pub loop-row-init : goal.loop-row-init
-loop-row-init c = refl
-
-pub loop-row-preserved : goal.loop-row-preserved
-loop-row-preserved c = c.loop-row.invariant ∙ lookup_no c.args.rows.now c.args.initials.now c.loop-row.row-index _ (omega arith) (sym c.if-alike.ensures)
-
-pub returns-then-alike : goal.returns-then-alike
-returns-then-alike c = sym (c.loop-row.invariant ∙ lookup_yes c.args.rows.now c.args.initials.now c.loop-row.row-index _ (omega arith) (sym c.if-alike.ensures))
-
 pub returns : goal.returns
-returns c = sym (c.loop-row.invariant ∙ lookup_all c.args.rows.now c.args.initials.now c.loop-row.row-index (omega arith))
+returns c =
+    let q = c.args.initials.now in
+    c.copied.ensures
+    ∙ find_from_yields_List (λ (r : Row). alike r.initials q) _ _ _ c.find.ensures.ran (YieldsList-from_slice c.args.rows.now cc) (λ x b q k. search (rules, tests))
+    ∙ find_is c.args.rows.now q
