@@ -1,17 +1,8 @@
 -- Marks are joined in any order and grouping: all that the regrouping law asks of them.
-use Rattle.std.proofs.Common.{◌≡◌, Bool, true, false, ◌||◌, refl}
+use Rattle.std.proofs.Common.{◌≡◌}
+use Rattle.std.proofs.Math.Bool.{or_comm, or_assoc}
 use Rattle.bank.specs.declared.reading.Mark.{Mark}
 use Rattle.bank.specs.Readings.{either}
-
-or_comm : (a b : Bool) → (a || b) ≡ (b || a)
-or_comm true true = refl
-or_comm true false = refl
-or_comm false true = refl
-or_comm false false = refl
-
-or_assoc : (a b c : Bool) → ((a || b) || c) ≡ (a || (b || c))
-or_assoc true b c = refl
-or_assoc false b c = refl
 
 pub either_comm : (x y : Mark) → either x y ≡ either y x
 either_comm x y = λ i. record { overdriven = or_comm x.overdriven y.overdriven i }

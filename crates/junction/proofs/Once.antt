@@ -1,26 +1,24 @@
 -- Moving a port adds its gauges once.
-use Rattle.std.proofs.Common.{◌≡◌, ℕ, zero, suc, ◌+◌, ◌<◌, ◌≤◌, Bool, true, false, cond, eqb, ◌≢◌, ◌⊎◌, List, [], ◌∷◌, length, is_ok, Some, None, Option, sym, refl, ap, ◌∙◌, subst, inl, inr, ⊎_elim, arith}
+use Rattle.std.proofs.Common.{◌≡◌, ℕ, zero, suc, ◌+◌, ◌<◌, ◌≤◌, Bool, true, false, cond, eqb, ◌≢◌, ◌⊎◌, List, [], ◌∷◌, length, is_ok, Some, sym, refl, ◌∙◌, subst, inl, inr, ⊎_elim, arith}
 use Rattle.std.proofs.lemmas.Bool.{eq-eqb, le-leb, cases_eq, false≢true}
-use Rattle.std.proofs.lemmas.List.{get_or-set_same, get_or-set_other, length-set}
-use Rattle.bank.specs.Ports.{Port, none}
+use Rattle.std.proofs.lemmas.List.{length-set}
+use Rattle.std.proofs.lemmas.Bool.Decides.{nat_tests}
+use Rattle.std.proofs.lemmas.Grind.{common_steps}
+use Rattle.bank.specs.Ports.{Port}
 use Rattle.junction.specs.declared.joins.Join.{Join}
 use Rattle.junction.specs.declared.feeds.Feeds.{Feeds}
-use Rattle.junction.specs.Feeding.{feeds_to, fed, own, moved}
+use Rattle.junction.specs.Feeding.{fed, own, moved}
 use Rattle.junction.specs.Gather.{part, gather}
 use Rattle.junction.specs.Joins.{joining, rejoined, after_joins, CountedOnce}
 use Rattle.junction.specs.Piles.{Free}
 use Rattle.junction.proofs.Rejoined.{well}
 
-split : (b : Bool) (a : Port) → a.gauges ≡ (cond b a none).gauges + cond b 0 a.gauges
-split true a = omega arith
-split false a = omega arith
-
 module _ (m : ℕ → Port) (fs : Feeds) (b a : ℕ) (h : b < length fs.joined) where
   other : (q : ℕ) → q ≢ b → (part (fed (moved fs b a)) m a q).gauges ≡ (part (fed fs) m a q).gauges
-  other q ne = ap (λ (o : Option ℕ). (cond (eqb (feeds_to q o) a) (m q) none).gauges) (get_or-set_other fs.joined b q (Some a) None ne)
+  other q ne = grind (arith, common_steps, nat_tests)
 
   here : (part (fed (moved fs b a)) m a b).gauges ≡ (part (fed fs) m a b).gauges + cond (eqb (fed fs b) a) 0 (m b).gauges
-  here = ap (λ (x : Bool). (cond x (m b) none).gauges) (eq-eqb (fed (moved fs b a) b) a (ap (feeds_to b) (get_or-set_same fs.joined b (Some a) None h))) ∙ split (eqb (fed fs b) a) (m b)
+  here = grind (arith, common_steps, nat_tests)
 
   before : (n : ℕ) → n ≤ b → (gather (fed (moved fs b a)) m a n).gauges ≡ (gather (fed fs) m a n).gauges
   unfolding gather

@@ -1,10 +1,10 @@
 -- What one more feeding port adds: to the counts, to the search for a dry port.
-use Rattle.std.proofs.Common.{◌≡◌, ℕ, zero, suc, ◌+◌, ◌-◌, ◌<◌, ◌≤◌, Bool, true, false, cond, ◌≢◌, length, Some, None, sym, ap, ◌∙◌, subst, ⊎_elim, add-one, arith}
+use Rattle.std.proofs.Common.{◌≡◌, ℕ, zero, suc, ◌+◌, ◌-◌, ◌*◌, ◌<◌, ◌≤◌, Bool, true, false, cond, ◌≢◌, length, Some, None, sym, ap, ◌∙◌, subst, ⊎_elim, add-one, arith}
 use Rattle.std.proofs.lemmas.Bool.{and_parts, cases_Bool, cases_eq, ltb-true, eqb-true}
 use Rattle.bank.specs.declared.counts.Counts.{Counts}
-use Rattle.bank.specs.Ports.{Port, counts}
+use Rattle.bank.specs.Ports.{Port, Sound, counts}
 use Rattle.junction.specs.Gather.{join, part, gather, shorter, dry, dry_from}
-use Rattle.junction.specs.Limits.{length_lines}
+use Rattle.junction.specs.Limits.{length_lines, part_few}
 use Rattle.junction.specs.Counting.{tallied, dried}
 
 counts_join : (a b : Port) → tallied (counts a) (counts b) ≡ counts (join a b)
@@ -23,14 +23,10 @@ pub told_dry : (a : Port) (c : Counts) (r t : Bool) → c ≡ counts a → r ≡
 told_dry a c r t e d k = sym (ap dried e) ∙ sym d ∙ k
 
 dry_first : (m a n b : ℕ) → 0 < m → a ≡ 0 → shorter m a n b ≡ 0
-dry_first zero a n b h e = absurd (omega arith)
-dry_first (suc m) a zero b h e = e
-dry_first (suc m) a (suc n) b h e = omega arith
+dry_first m a n b h e = grind arith
 
 dry_second : (m a n b : ℕ) → 0 < n → b ≡ 0 → shorter m a n b ≡ 0
-dry_second zero a n b h e = e
-dry_second (suc m) a zero b h e = absurd (omega arith)
-dry_second (suc m) a (suc n) b h e = omega arith
+dry_second m a n b h e = grind arith
 
 module _ (f : ℕ → ℕ) (m : ℕ → Port) (p : ℕ) where
   -- ---- one turn of a loop that counts
@@ -38,8 +34,11 @@ module _ (f : ℕ → ℕ) (m : ℕ → Port) (p : ℕ) where
   unfolding gather
   gather_next n = ap (gather f m p) (add-one n)
 
-  pub gauges_next : (n s a : ℕ) → s ≡ (gather f m p n).gauges → a ≡ (part f m p n).gauges → s + a ≡ (gather f m p (n + 1)).gauges
-  gauges_next n s a es ea = (λ i. es i + ea i) ∙ sym (ap (λ (z : Port). z.gauges) (gather_next n))
+  -- no more than eight gauges come from each port
+  pub gather_few : ((q : ℕ) → Sound (m q)) → (n : ℕ) → (gather f m p n).gauges ≤ 8 * n
+  unfolding gather
+  gather_few ok zero = omega arith
+  gather_few ok (suc n) = omega (arith, gather_few ok n, part_few f m p ok n)
 
   pub counts_next : (n : ℕ) (s c : Counts) → s ≡ counts (gather f m p n) → c ≡ counts (part f m p n) → tallied s c ≡ counts (gather f m p (n + 1))
   counts_next n s c es ec = (λ i. tallied (es i) (ec i)) ∙ counts_join (gather f m p n) (part f m p n) ∙ sym (ap counts (gather_next n))

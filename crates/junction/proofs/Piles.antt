@@ -1,18 +1,22 @@
 -- The laws of piles.
 use Rattle.std.proofs.Common.{◌≡◌, ℕ, zero, suc, ◌+◌, ◌<◌, ◌≤◌, min, Bool, true, false, cond, ◌&&◌, eqb, ltb, ◌≢◌, List, [], ◌∷◌, ◌++◌, length, get_or, sym, refl, ap, ◌∙◌, subst, ⊎_elim, add-zero, zero-add, arith}
-use Rattle.std.proofs.lemmas.Bool.{cases_lt, cases_eq, eq-eqb, ne_eqb, ltb-true, lt-ltb, le-ltb}
+use Rattle.std.proofs.lemmas.Bool.{cases_lt, cases_eq, eq-eqb, ne_eqb, ltb-true, lt-ltb, le-ltb, le-leb}
 use Rattle.bank.specs.declared.reading.Reading.{Reading}
 use Rattle.bank.specs.Ports.{Port, none}
+use Rattle.junction.specs.declared.feeds.Feeds.{Feeds}
 use Rattle.junction.specs.declared.joins.Join.{Join}
 use Rattle.junction.specs.Feeding.{fed, own}
-use Rattle.junction.specs.Gather.{both, paired, lines, join, part, gather}
+use Rattle.junction.specs.Gather.{both, paired, lines, join, part, gather, boxed}
 use Rattle.junction.specs.Limits.{length_paired, boxed_sound}
 use Rattle.junction.specs.Joins.{after_joins}
 use Rattle.junction.specs.Piles.{from, box_on, pile, reach, fitted, arrivals, gathered, gauge_sum, shortest, reading_of, Gathering, Lawful, Gathers, SameGauges}
 use Rattle.junction.proofs.Joining.{Bare, bare_none, none_join, join_none, join_assoc}
 use Rattle.junction.proofs.Regroup.{total, gather_total, total_same, cond_bare, regroup, gather_self}
-use Rattle.junction.proofs.Taking.{boxed_few}
 use Rattle.junction.proofs.Rejoined.{well}
+
+-- what waits at a port of a box that eight gauges at most feed
+boxed_few : (fs : Feeds) (m : ℕ → Port) (p : ℕ) → (gather (fed fs) m p 32).gauges ≤ 8 → boxed fs m p ≡ gather (fed fs) m p 32
+boxed_few fs m p h = let a = le-leb (gather (fed fs) m p 32).gauges 8 h in rw a
 
 -- ---- a port of a pile is gathered from the ports of its bank that reach it
 pub pile_gather : (m : ℕ → Port) → Lawful m → (boxes : List (List Join)) (p : ℕ) → p < 32 → pile m boxes p ≡ gather (reach m boxes) m p 32

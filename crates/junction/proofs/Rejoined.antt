@@ -1,11 +1,13 @@
 -- Joins made one after another keep a box within its limits.
-use Rattle.std.proofs.Common.{◌≡◌, ℕ, zero, suc, ◌<◌, ◌≤◌, Bool, true, false, cond, eqb, leb, ◌≢◌, ◌⊎◌, List, [], ◌∷◌, get_or, set, is_ok, Some, None, Ok, Err, Option, sym, refl, ap, ◌∙◌, subst, inl, inr, ⊎_elim, arith}
-use Rattle.std.proofs.lemmas.Bool.{ne_eqb, cases_eq, cases_Bool, leb-true, false≢true}
+use Rattle.std.proofs.Common.{◌≡◌, ℕ, zero, suc, ◌<◌, ◌≤◌, Bool, true, false, cond, leb, ◌≢◌, ◌⊎◌, List, [], ◌∷◌, is_ok, None, Ok, Err, sym, refl, ap, subst, ⊎_elim, arith}
+use Rattle.std.proofs.lemmas.Bool.{cases_eq, cases_Bool, leb-true, false≢true}
+use Rattle.std.proofs.lemmas.Bool.Decides.{nat_tests}
+use Rattle.std.proofs.lemmas.Grind.{common_steps}
 use Rattle.fault.specs.declared.faults.Fault.{Fault}
 use Rattle.fault.specs.declared.causes.Cause.TheVariants.{NinthGauge, PortRange}
 use Rattle.fault.specs.Faults.{refusal}
 use Rattle.bank.proofs.Lists.{get_d_same}
-use Rattle.bank.specs.Ports.{Port, Sound, none}
+use Rattle.bank.specs.Ports.{Port, Sound}
 use Rattle.junction.specs.declared.feeds.Feeds.{Feeds}
 use Rattle.junction.specs.declared.joins.Join.{Join}
 use Rattle.junction.specs.Feeding.{feeds_to, fed, own, moved}
@@ -14,29 +16,15 @@ use Rattle.junction.specs.Joins.{joining, rejoined, after_joins}
 use Rattle.junction.specs.Piles.{Eight}
 use Rattle.junction.proofs.Regroup.{gather_self}
 
-set_either : (os : List (Option ℕ)) (b q : ℕ) (o : Option ℕ) → (get_or (set os b o) q None ≡ o) ⊎ (get_or (set os b o) q None ≡ get_or os q None)
-set_either [] b q o = inr refl
-set_either (x ∷ os) zero zero o = inl refl
-set_either (x ∷ os) zero (suc q) o = inr refl
-set_either (x ∷ os) (suc b) zero o = inr refl
-set_either (x ∷ os) (suc b) (suc q) o = set_either os b q o
-
 fed_either : (fs : Feeds) (b a q : ℕ) → (fed (moved fs b a) q ≡ a) ⊎ (fed (moved fs b a) q ≡ fed fs q)
-fed_either fs b a q =
-    ⊎_elim
-    (λ (e : get_or (set fs.joined b (Some a)) q None ≡ Some a). inl (ap (feeds_to q) e))
-    (λ (e : get_or (set fs.joined b (Some a)) q None ≡ get_or fs.joined q None). inr (ap (feeds_to q) e))
-    (set_either fs.joined b q (Some a))
+fed_either fs b a q = grind (arith, common_steps)
 
 fed_own : (q : ℕ) → fed own q ≡ q
 fed_own q = ap (feeds_to q) (get_d_same 32 q None)
 
 -- ---- where a port is moved, no port but the new one gets more gauges
 part_less : (f g : ℕ → ℕ) (m : ℕ → Port) (p a q : ℕ) → p ≢ a → (f q ≡ a) ⊎ (f q ≡ g q) → (part f m p q).gauges ≤ (part g m p q).gauges
-part_less f g m p a q d =
-    ⊎_elim
-    (λ (e : f q ≡ a). let z : (part f m p q).gauges ≡ 0 = ap (λ (b : Bool). (cond b (m q) none).gauges) (ne_eqb (f q) p (λ (c : f q ≡ p). d (sym c ∙ e))) in omega arith)
-    (λ (e : f q ≡ g q). let z : (part f m p q).gauges ≡ (part g m p q).gauges = ap (λ (x : ℕ). (cond (eqb x p) (m q) none).gauges) e in omega arith)
+part_less f g m p a q d h = grind (arith, nat_tests)
 
 gather_less : (f g : ℕ → ℕ) (m : ℕ → Port) (p : ℕ) → ((q : ℕ) → (part f m p q).gauges ≤ (part g m p q).gauges) → (n : ℕ) → (gather f m p n).gauges ≤ (gather g m p n).gauges
 unfolding gather

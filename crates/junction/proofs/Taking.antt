@@ -1,17 +1,18 @@
 -- What taking at a port of a box answers and leaves.
-use Rattle.std.proofs.Common.{◌≡◌, ℕ, zero, suc, ◌+◌, ◌<◌, ◌≤◌, Bool, true, false, cond, ◌&&◌, eqb, leb, ◌≢◌, List, [], ◌∷◌, length, Some, Err, Option, sym, refl, ap, ◌∙◌, subst, ⊎_elim, arith}
-use Rattle.std.specs.Option.{ok_or}
-use Rattle.std.proofs.lemmas.Bool.{cases_eq, cases_Bool, leb-true, lt-ltb, le-leb, lt-leb, eq-eqb, ne_eqb, and_right}
+use Rattle.std.proofs.Common.{◌≡◌, ℕ, zero, suc, ◌+◌, ◌<◌, ◌≤◌, Bool, true, false, cond, eqb, leb, ◌≢◌, List, [], ◌∷◌, length, Some, None, Err, Option, sym, refl, ap, ◌∙◌, subst, ⊎_elim, arith}
+use Rattle.std.specs.Option.{is_some}
+use Rattle.std.proofs.lemmas.Bool.{cases_eq, false≢true}
+use Rattle.std.proofs.lemmas.Bool.Decides.{nat_tests}
 use Rattle.fault.specs.declared.faults.Fault.{Fault}
 use Rattle.fault.specs.declared.causes.Cause.TheVariants.{TooFewReadings}
 use Rattle.fault.specs.Faults.{refusal}
 use Rattle.bank.specs.declared.reading.Reading.{Reading}
-use Rattle.bank.specs.Ports.{Port, Sound, none, rest, popped, front, first, first_at, rest_at}
+use Rattle.bank.specs.Ports.{Port, Sound, none, rest, popped, first_at, rest_at}
 use Rattle.bank.proofs.Empty.{empty_first}
 use Rattle.junction.specs.declared.feeds.Feeds.{Feeds}
 use Rattle.junction.specs.Feeding.{fed}
 use Rattle.junction.specs.Gather.{paired, lines, join, part, gather, capped, boxed, dry_from, drawn}
-use Rattle.junction.specs.Limits.{gather_fair}
+use Rattle.junction.specs.Limits.{boxed_sound}
 use Rattle.junction.proofs.Parts.{some_dry}
 
 -- ---- a gathered port without its first reading
@@ -30,23 +31,21 @@ popped_join : (a b : Port) → join (popped a) (popped b) ≡ popped (join a b)
 popped_join a b = λ i. record { gauges = a.gauges + b.gauges; waiting = sym (rest_lines a.gauges b.gauges a.waiting b.waiting) i }
 
 popped_capped : (a : Port) → capped (popped a) ≡ popped (capped a)
-popped_capped a = elim (leb a.gauges 8) as (λ b. cond b (popped a) none ≡ popped (cond b a none)) [ true ↦ refl | false ↦ refl ]
+popped_capped a = grind (arith, nat_tests)
 
 -- ---- the box once a reading was taken from each port that feeds p
 twice : (b : Bool) (a : Port) → cond b (cond b (popped a) a) none ≡ popped (cond b a none)
-twice true a = refl
-twice false a = refl
+twice b a = grind arith
 
 apart : (x r p : ℕ) (a : Port) → r ≢ p → cond (eqb x r) (cond (eqb x p) (popped a) a) none ≡ cond (eqb x r) a none
-apart x r p a ne =
-    ⊎_elim
-    (λ (e : x ≡ r). let b = ne_eqb x p (λ (d : x ≡ p). ne (sym e ∙ d)) in rw b)
-    (λ (e : x ≢ r). let b = ne_eqb x r e in rw b)
-    (cases_eq x r)
+apart x r p a ne = grind (arith, nat_tests)
 
 module _ (f : ℕ → ℕ) (m k : ℕ → Port) (p : ℕ) (was : k ≡ drawn f m p 32) where
+  at : (q : ℕ) → q < 32 → drawn f m p 32 q ≡ cond (eqb (f q) p) (popped (m q)) (m q)
+  at q h = grind (arith, nat_tests)
+
   is : (q : ℕ) → q < 32 → k q ≡ cond (eqb (f q) p) (popped (m q)) (m q)
-  is q h = (λ i. was i q) ∙ ap (λ (b : Bool). cond (b && eqb (f q) p) (popped (m q)) (m q)) (lt-ltb q 32 h)
+  is q h = (λ i. was i q) ∙ at q h
 
   part_popped : (q : ℕ) → q < 32 → part f k p q ≡ popped (part f m p q)
   part_popped q h = ap (λ (a : Port). cond (eqb (f q) p) a none) (is q h) ∙ twice (eqb (f q) p) (m q)
@@ -65,63 +64,31 @@ module _ (f : ℕ → ℕ) (m k : ℕ → Port) (p : ℕ) (was : k ≡ drawn f m
   gather_kept r ne (suc n) h = λ i. join (gather_kept r ne n (omega arith) i) (part_kept r ne n (omega arith) i)
 
 here : (m : ℕ → Port) (p : ℕ) → p ≤ 31 → rest_at m p p ≡ popped (m p)
-here m p h = ap (λ (b : Bool). cond (b && eqb p p) (popped (m p)) (m p)) (le-leb p 31 h) ∙ ap (λ (b : Bool). cond b (popped (m p)) (m p)) (eq-eqb p p refl)
+here m p h = grind (arith, nat_tests)
 
 elsewhere : (m : ℕ → Port) (p r : ℕ) → r ≢ p → rest_at m p r ≡ m r
-elsewhere m p r ne = ap (λ (b : Bool). cond b (popped (m r)) (m r)) (and_right (leb p 31) (eqb r p) (ne_eqb r p ne))
+elsewhere m p r ne = grind (arith, nat_tests)
 
 -- one reading is gone at port p, and nothing elsewhere
-pub box_drawn : (fs : Feeds) (m k : ℕ → Port) (p : ℕ) → p ≤ 31 → k ≡ drawn (fed fs) m p 32 → boxed fs k ≡ rest_at (boxed fs m) p
-box_drawn fs m k p h was = λ i. λ r.
+pub box_drawn : (fs gs : Feeds) (m k : ℕ → Port) (p : ℕ) → p ≤ 31 → gs ≡ fs → k ≡ drawn (fed fs) m p 32 → boxed gs k ≡ rest_at (boxed fs m) p
+box_drawn fs gs m k p h same was = ap (λ (x : Feeds). boxed x k) same ∙ (λ i. λ r.
     ⊎_elim
     (λ (e : r ≡ p). subst (λ (x : ℕ). boxed fs k x ≡ rest_at (boxed fs m) p x) (sym e) (ap capped (gather_popped (fed fs) m k p was 32 (omega arith)) ∙ popped_capped (gather (fed fs) m p 32) ∙ sym (here (boxed fs m) p h)))
     (λ (e : r ≢ p). ap capped (gather_kept (fed fs) m k p was r e 32 (omega arith)) ∙ sym (elsewhere (boxed fs m) p r e))
-    (cases_eq r p) i
+    (cases_eq r p) i)
 
 -- ---- what is answered
--- what waits at a port of a box, from what feeds it
-pub boxed_few : (fs : Feeds) (m : ℕ → Port) (p : ℕ) → (gather (fed fs) m p 32).gauges ≤ 8 → boxed fs m p ≡ gather (fed fs) m p 32
-boxed_few fs m p h = let a = le-leb (gather (fed fs) m p 32).gauges 8 h in rw a
-
-pub boxed_many : (fs : Feeds) (m : ℕ → Port) (p : ℕ) → 8 < (gather (fed fs) m p 32).gauges → boxed fs m p ≡ none
-boxed_many fs m p h = let a = lt-leb (gather (fed fs) m p 32).gauges 8 h in rw a
-
 module _ (fs : Feeds) (m : ℕ → Port) (p : ℕ) where
+  pub bare_waits : ((q : ℕ) → Sound (m q)) → (boxed fs m p).gauges ≡ 0 → length (boxed fs m p).waiting ≡ 0
+  bare_waits ok e = ap length ((boxed_sound fs m ok p).bare e)
+
   cond_empty : (b : Bool) (x : Port) → length x.waiting ≡ 0 → length (cond b x none).waiting ≡ 0
   cond_empty true x e = e
   cond_empty false x e = refl
 
-  bare_empty : (b : Bool) (x : Port) → (x.gauges ≡ 0 → x.waiting ≡ []) → (cond b x none).gauges ≡ 0 → length (cond b x none).waiting ≡ 0
-  bare_empty true x bare e = ap length (bare e)
-  bare_empty false x bare e = refl
+  pub dry_waits : (found : Option ℕ) → found ≡ dry_from (fed fs) m p 0 32 → is_some found ≡ true → length (boxed fs m p).waiting ≡ 0
+  dry_waits (Some x) e t = cond_empty (leb (gather (fed fs) m p 32).gauges 8) (gather (fed fs) m p 32) (some_dry (fed fs) m p 32 0 32 x (omega arith) (sym e)).1
+  dry_waits None e t = absurd (false≢true t)
 
-  pub bare_waits : ((q : ℕ) → Sound (m q)) → (boxed fs m p).gauges ≡ 0 → length (boxed fs m p).waiting ≡ 0
-  bare_waits ok e = bare_empty (leb (gather (fed fs) m p 32).gauges 8) (gather (fed fs) m p 32) (gather_fair (fed fs) m p ok 32).bare e
-
-  pub dry_waits : (x : ℕ) → dry_from (fed fs) m p 0 32 ≡ Some x → length (boxed fs m p).waiting ≡ 0
-  dry_waits x e = cond_empty (leb (gather (fed fs) m p 32).gauges 8) (gather (fed fs) m p 32) (some_dry (fed fs) m p 32 0 32 x (omega arith) e).1
-
--- a port that counts a gauge is fed by eight at most
-pub counted_few : (fs : Feeds) (m : ℕ → Port) (p : ℕ) → (boxed fs m p).gauges ≢ 0 → (gather (fed fs) m p 32).gauges ≤ 8
-counted_few fs m p ne =
-    ⊎_elim
-    (λ (e : leb (gather (fed fs) m p 32).gauges 8 ≡ true). leb-true _ 8 e)
-    (λ (e : leb (gather (fed fs) m p 32).gauges 8 ≡ false). absurd (ne (ap (λ (b : Bool). (cond b (gather (fed fs) m p 32) none).gauges) e)))
-    (cases_Bool (leb (gather (fed fs) m p 32).gauges 8))
-
--- ---- over the values that the code has
-or_first : (p : ℕ) (xs : List Reading) → ok_or (front xs) (refusal TooFewReadings p) ≡ first p xs
-or_first p [] = refl
-or_first p (x ∷ xs) = refl
-
-module _ (fs : Feeds) (m : ℕ → Port) (p : ℕ) (h : p < 32) (x : Fault) (is : x ≡ refusal TooFewReadings p) where
-  pub refused_first : length (boxed fs m p).waiting ≡ 0 → Err x ≡ first_at (boxed fs m) p
-  refused_first e = ap Err is ∙ empty_first (boxed fs m) p e (omega arith)
-
-  pub drawn_first : (r : Option Reading) → (gather (fed fs) m p 32).gauges ≤ 8 → r ≡ front (gather (fed fs) m p 32).waiting → ok_or r x ≡ first_at (boxed fs m) p
-  drawn_first r few e =
-      let a = le-leb p 31 (omega arith) in
-      (λ i. ok_or (e i) (is i))
-      ∙ ap (λ (z : Port). ok_or (front z.waiting) (refusal TooFewReadings p)) (sym (boxed_few fs m p few))
-      ∙ or_first p (boxed fs m p).waiting
-      ∙ sym (rw a)
+  pub refused_first : (x : Fault) → p ≤ 31 → x ≡ refusal TooFewReadings p → length (boxed fs m p).waiting ≡ 0 → Err x ≡ first_at (boxed fs m) p
+  refused_first x h is e = ap Err is ∙ empty_first (boxed fs m) p e h

@@ -1,9 +1,8 @@
 // The feeding map of a junction box.
-ghost use Rattle.std.specs.Prelude.{◌≡◌, ◌<◌};
+ghost use Rattle.std.specs.Prelude.{◌≡◌};
 ghost use Rattle.junction.specs.Feeding.{fed, own, moved};
 
-// How many ports a bank has.
-pub const PORTS: u8 = 32;
+use bank::Address;
 
 // The port above that each port below was joined to. One that was not joined feeds the port of its own number.
 #[derive(Clone, Copy)]
@@ -20,21 +19,16 @@ impl Feeds {
     }
 
     // The port above that a port below feeds.
-    pub fn above(&self, below: u8) -> u8
-        requires { below < 32 }
-        ensures { result ≡ fed self.now below }
+    pub fn above(&self, below: Address) -> u8
+        ensures { result ≡ fed self.now below.number }
     {
-        match self.joined[below as usize] {
-            Some(above) => above,
-            None => below,
-        }
+        self.joined[below.index()].unwrap_or(below.number)
     }
 
     // Makes a port below feed another port above.
-    pub fn turn(&mut self, below: u8, above: u8)
-        requires { below < 32 }
-        ensures { self.new ≡ moved self.old below above }
+    pub fn turn(&mut self, below: Address, above: Address)
+        ensures { self.new ≡ moved self.old below.number above.number }
     {
-        self.joined[below as usize] = Some(above);
+        self.joined[below.index()] = Some(above.number);
     }
 }

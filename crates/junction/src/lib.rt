@@ -1,8 +1,8 @@
 // Junction boxes: several ports of a bank joined into one, on any bank, boxes included.
 #![tactic(auto)]
 
+mod as_one;
 mod feeds;
-mod gathering;
 mod joins;
 mod junction_box;
 mod wiring;

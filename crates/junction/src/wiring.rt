@@ -20,7 +20,7 @@ pub struct WiredBox<B> {
 fn refusal_count(answer: Result<(), Fault>) -> usize
     ensures { result ≡ refusal_count answer }
 {
-    if answer.is_err() { 1 } else { 0 }
+    usize::from(answer.is_err())
 }
 
 // A new box on a bank, joined as the list says, one join after another; a refused one is passed over and counted.

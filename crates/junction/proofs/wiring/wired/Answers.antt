@@ -1,13 +1,10 @@
-use Rattle.std.proofs.Common.{refl, arith}
+use Rattle.std.proofs.Common.{arith}
 use Rattle.junction.specs.Gather.{boxed}
 use Rattle.junction.proofs.Turns.{at_most_one, done_box, done_refused, turn_below, turn_feeds, turn_refusals}
 use Rattle.junction.proofs.Once.{counted_once, free}
 use Rattle.junction.proofs.Rejoined.{eight}
 use Rattle.junction.proofs.Piles.{gathers, same_gauges}
 use Rattle.junction.proofs.wiring.wired.Goals as goal
-
-pub loop-join-init : goal.loop-join-init
-loop-join-init g c = (refl, refl, omega arith, omega arith)
 
 pub loop-join-preserved : goal.loop-join-preserved
 loop-join-preserved g c =
@@ -18,14 +15,15 @@ loop-join-preserved g c =
     let box = c.loop-join.junction in
     let next = c.join.new.self in
     let h = c.loop-join-test.true in
-    let same = c.loop-join.invariant.0 in
+    let was = c.loop-join.invariant in
     let after = c.join.ensures.after in
-    let few = at_most_one c.join.result in (
-      turn_below shows js i h below box next same after,
-      turn_feeds shows js i h below box next same after _ c.loop-join.invariant.1,
-      turn_refusals shows js i h below box next same after _ c.loop-join.refused c.refusal_count-refused.result c.join.result c.join.ensures.answer c.refusal_count-refused.ensures c.loop-join.invariant.2,
-      omega (arith, few, c.refusal_count-refused.ensures),
-    )
+    let one = c.refusal_count-refused.ensures in
+    record {
+      below = turn_below shows js i h below box next was.below after;
+      feeds = turn_feeds shows js i h below box next was.below after _ was.feeds;
+      count = turn_refusals shows js i h below box next was.below after _ c.loop-join.refused _ c.join.result c.join.ensures.answer one was.count;
+      few = omega (arith, one, at_most_one c.join.result);
+    }
 
 pub returns : goal.returns
 returns g c =
@@ -33,8 +31,8 @@ returns g c =
     let js = c.args.joins.now in
     let i = c.loop-join.join-index in
     let h = c.loop-join-test.false in
-    let box = done_box shows js i h c.args.bank c.new-junction.result c.loop-join.junction c.new-junction.ensures c.loop-join.invariant.0 c.loop-join.invariant.1 in
-    let refused = done_refused shows js i h c.args.bank c.new-junction.result c.loop-join.junction c.new-junction.ensures c.loop-join.invariant.0 c.loop-join.refused c.loop-join.invariant.2 in
+    let box = done_box shows js i h c.args.bank c.new-junction.result c.loop-join.junction c.new-junction.ensures c.loop-join.invariant.below c.loop-join.invariant.feeds in
+    let refused = done_refused shows js i h c.args.bank c.new-junction.result c.loop-join.junction c.new-junction.ensures c.loop-join.invariant.below c.loop-join.refused c.loop-join.invariant.count in
     record {
       value = λ k. record { junction = box k; refused = refused k };
       meaning = λ k. boxed (box k).feeds (shows (box k).below);

@@ -8,7 +8,9 @@ invariant-loop-join g l =
     let m = g.B.GaugeBank.shows l.initial.junction.below in
     let own = l.initial.junction.feeds in
     let left = drop l.join-index l.joins in
-    (l.junction.below ≡ l.initial.junction.below)
-    × (after_joins m l.junction.feeds left ≡ after_joins m own l.joins)
-    × (l.refused + refusals m l.junction.feeds left ≡ refusals m own l.joins)
-    × (l.refused ≤ l.join-index)
+    record {
+      below : l.junction.below ≡ l.initial.junction.below;
+      feeds : after_joins m l.junction.feeds left ≡ after_joins m own l.joins;
+      count : l.refused + refusals m l.junction.feeds left ≡ refusals m own l.joins;
+      few : l.refused ≤ l.join-index;
+    }
