@@ -1,5 +1,6 @@
 -- The laws of one scale.
 use Rattle.std.proofs.Common.{◌≡◌, ℕ, ◌<◌, Bool, true, false, cond, eqb, ltb, leb, List, length, ℤ, pos, negsuc, ◌-ℤ◌, Some, None, Ok, Err, Option, Result, refl, subst, inl, inr, arith}
+use Rattle.std.proofs.lemmas.Bool.{cond_both}
 use lib.Signed.{lt_z}
 use Rattle.fault.specs.declared.faults.Fault.{Fault}
 use Rattle.bank.specs.Ports.{Port}
@@ -22,12 +23,9 @@ use Rattle.scale.specs.declared.averaging.Averaging.{Averaging}
 use Rattle.scale.specs.declared.measuring.Measurement.{Measurement}
 use Rattle.scale.specs.declared.modes.Mode.{Mode}
 use Rattle.scale.specs.declared.modes.Mode.TheVariants.{Selected, Broadcast}
-use Rattle.scale.specs.declared.orders.Task.{Task}
-use Rattle.scale.specs.declared.orders.Task.TheVariants.{KeepDead, SetFull, Tare, Weigh, Plain}
 use Rattle.scale.specs.declared.settings.Settings.{Settings}
 use Rattle.scale.specs.declared.state.State.{State}
 use Rattle.scale.specs.declared.step.Step.{Step as the_step}
-use Rattle.scale.specs.declared.step.Step.TheVariants.{One, Two, Five, Ten, Twenty, Fifty, Hundred}
 use Rattle.scale.specs.Blocks.{readings_for, holding, refused_or}
 use Rattle.scale.specs.Calibrating.{Acted, load_given, given_port, load_of, keeps, calibrates, full_over, tared, dead_loads, full_loads, tares}
 use Rattle.scale.specs.Choices.{readings_of, step_value}
@@ -36,7 +34,7 @@ use Rattle.scale.specs.Entries.{Said, put_in_force, set_by, opens, unlock_by, re
 use Rattle.scale.specs.Hearing.{Step, voiced, weighs, by_form, by_task, permitted_by, obeys_by, obeys, admitted, hears}
 use Rattle.scale.specs.Laws.{Kept, RefusalsKeep, SettingsKept, query, QueriesKeep, RestartsRestore, HeldOnce, exact_load, WeighingsExact, ScaleLaws}
 use Rattle.scale.specs.Measuring.{dropped, measurement, measures, measured_port}
-use Rattle.scale.specs.Orders.{block_size, number_in, text_in, task_of}
+use Rattle.scale.specs.Orders.{Task, KeepDead, SetFull, Tare, Weigh, Plain, block_size, number_in, text_in, task_of}
 use Rattle.scale.specs.Queries.{tells, clears, asked_for}
 
 -- ---- what is refused is kept
@@ -84,14 +82,10 @@ keeps_still s p q (Err f) h = moved f s p q h
 abbrev StillA : State → Port → Acted → Type 0
 StillA s p x = Still s p x.state x.port x.reply
 
-StillACond : (s : State) (p : Port) (b : Bool) (x y : Acted) → StillA s p x → StillA s p y → StillA s p (cond b x y)
-StillACond s p true x y h k = h
-StillACond s p false x y h k = k
-
 calibrates_still : (a : ℕ) (s : State) (p q : Port) (d : ℤ) (r : Result ℤ Fault) → Back p q r → StillA s p (calibrates a s q d r)
 calibrates_still a s p q d (Err f) h = moved f s p q h
 calibrates_still a s p q d (Ok z) h =
-    StillACond s p (lt_z d z) _ _ tt (record { force = refl; stored = refl; pending = refl; held = refl; memory = refl; opened = inl refl; port = inr refl })
+    cond_both (lt_z d z) _ _ (StillA s p) (λ _. tt) (λ _. record { force = refl; stored = refl; pending = refl; held = refl; memory = refl; opened = inl refl; port = inr refl })
 
 full_still : (a : ℕ) (o : Order) (s : State) (p : Port) (x : Option ℤ) → Still s p (full_over a o s p x).state (full_over a o s p x).port (full_over a o s p x).reply
 full_still a o s p None = unmoved _ s p
@@ -102,10 +96,10 @@ tared_still s p q (Ok m) h = tt
 tared_still s p q (Err f) h = moved f s p q h
 
 dead_still : (a : ℕ) (o : Order) (s : State) (p : Port) → StillA s p (dead_loads a o s p)
-dead_still a o s p = StillACond s p (ltb 0 s.force.nominal) _ _ (unmoved _ s p) (keeps_still s p _ _ (given_back a s.force.averaging o.argument o.place p))
+dead_still a o s p = cond_both (ltb 0 s.force.nominal) _ _ (StillA s p) (λ _. unmoved _ s p) (λ _. keeps_still s p _ _ (given_back a s.force.averaging o.argument o.place p))
 
 fulls_still : (a : ℕ) (o : Order) (s : State) (p : Port) → StillA s p (full_loads a o s p)
-fulls_still a o s p = StillACond s p (ltb 0 s.force.nominal) _ _ (unmoved _ s p) (full_still a o s p s.pending)
+fulls_still a o s p = cond_both (ltb 0 s.force.nominal) _ _ (StillA s p) (λ _. unmoved _ s p) (λ _. full_still a o s p s.pending)
 
 tares_still : (a : ℕ) (s : State) (p : Port) → StillA s p (tares a s p)
 tares_still a s p = tared_still s p _ _ (measured_back a s.force.averaging p)
@@ -113,10 +107,6 @@ tares_still a s p = tared_still s p _ _ (measured_back a s.force.averaging p)
 -- orders that leave the port alone
 abbrev StillS : State → Port → Said → Type 0
 StillS s p x = Still s p x.state p x.reply
-
-StillSCond : (s : State) (p : Port) (b : Bool) (x y : Said) → StillS s p x → StillS s p y → StillS s p (cond b x y)
-StillSCond s p true x y h k = h
-StillSCond s p false x y h k = k
 
 put_still : (s : State) (p : Port) (place : ℕ) (x : Option Settings) → StillS s p (put_in_force s place x)
 put_still s p place None = unmoved _ s p
@@ -139,7 +129,7 @@ relock_still s p (Err f) = unmoved f s p
 relock_still s p (Ok t) = tt
 
 default_still : (place : ℕ) (s : State) (p : Port) (n : ℤ) → StillS s p (default_at place s n)
-default_still place s p (pos n) = StillSCond s p (eqb n 0) _ _ tt (StillSCond s p (eqb n 1) _ _ tt (unmoved _ s p))
+default_still place s p (pos n) = cond_both (eqb n 0) _ _ (StillS s p) (λ _. tt) (λ _. cond_both (eqb n 1) _ _ (StillS s p) (λ _. tt) (λ _. unmoved _ s p))
 default_still place s p (negsuc n) = unmoved _ s p
 
 defaults_still : (place : ℕ) (s : State) (p : Port) (r : Result ℤ Fault) → StillS s p (default_by place s r)
@@ -200,7 +190,7 @@ obeys_still m a s p (Err f) = unmoved f s p
 obeys_still m a s p (Ok o) = task_still (task_of o.form o.name) m a o s p
 
 still_kept : {A : Type 0} (s : State) (p : Port) (t : State) (q : Port) (r : Result A Fault) (f : Fault) → Still s p t q r → r ≡ Err f → Kept f s p t q
-still_kept s p t q (Ok x) f h e = let z : ◌≡◌ {A = ℕ} 0 1 = cc in absurd (omega arith)
+still_kept s p t q (Ok x) f h e = absurd (grind arith)
 still_kept s p t q (Err g) f h e = let k : g ≡ f = cc in subst (λ (x : Fault). Kept x s p t q) k h
 
 refusals_keep : RefusalsKeep
@@ -272,13 +262,7 @@ held_once a n k s p q = refl
 
 -- ---- weighing
 step_some : (x : the_step) → 0 < step_value x
-step_some One = omega arith
-step_some Two = omega arith
-step_some Five = omega arith
-step_some Ten = omega arith
-step_some Twenty = omega arith
-step_some Fifty = omega arith
-step_some Hundred = omega arith
+step_some x = grind arith
 
 weighings_exact : WeighingsExact
 weighings_exact s xs h = record {

@@ -1,5 +1,5 @@
 -- A port put in its place.
-use Rattle.std.proofs.Common.{◌≡◌, ℕ, ◌≤◌, Bool, true, false, cond, ◌&&◌, eqb, ◌≢◌, sym, refl, ap, ◌∙◌, ⊎_elim}
+use Rattle.std.proofs.Common.{◌≡◌, ℕ, ◌≤◌, Bool, cond, ◌&&◌, eqb, ◌≢◌, sym, refl, ap, ◌∙◌, ⊎_elim, arith}
 use Rattle.std.proofs.lemmas.Bool.{eq-eqb, ne_eqb, cases_eq, le-leb}
 use Rattle.bank.specs.Ports.{Port, popped, rest_at}
 use Rattle.scale.specs.Measuring.{put_port}
@@ -18,16 +18,14 @@ pub put_here : (m : ℕ → Port) (p : ℕ) (v : Port) → put_port m p v p ≡ 
 put_here m p v = ap (λ (b : Bool). cond b v (m p)) (eq-eqb p p refl)
 
 again : (b : Bool) (v w x : Port) → cond b w (cond b v x) ≡ cond b w x
-again true v w x = refl
-again false v w x = refl
+again b v w x = grind arith
 
 -- the last that is put counts
 pub put_again : (m : ℕ → Port) (p : ℕ) (v w : Port) → put_port (put_port m p v) p w ≡ put_port m p w
 put_again m p v w = λ i. λ k. again (eqb k p) v w (m k) i
 
 swap_in : (b : Bool) (v x : Port) → cond b (popped (cond b v x)) (cond b v x) ≡ cond b (popped v) x
-swap_in true v x = refl
-swap_in false v x = refl
+swap_in b v x = grind arith
 
 -- taking at a port is putting there what is left
 pub rest_put : (m : ℕ → Port) (p : ℕ) (v : Port) → p ≤ 31 → rest_at (put_port m p v) p ≡ put_port m p (popped v)

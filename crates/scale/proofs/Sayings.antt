@@ -1,29 +1,27 @@
 -- How long an answer is, and that nobody answers in a broadcast.
-use Rattle.std.proofs.Common.{◌≡◌, ℕ, zero, suc, ◌≤◌, Bool, true, false, ◌&&◌, leb, List, [], ◌∷◌, length, drop, ℤ, pos, negsuc, Some, None, Ok, Err, Option, Result, refl, ap, arith}
-use Rattle.std.proofs.lemmas.Bool.{cond_both, leb-true, false≢true}
+use Rattle.std.proofs.Common.{◌≡◌, ℕ, zero, suc, ◌≤◌, leb, List, [], ◌∷◌, length, drop, ℤ, Ok, Err, Option, Result, refl, ap, arith}
+use Rattle.std.proofs.lemmas.Bool.{cond_both}
+use Rattle.std.proofs.lemmas.Bool.Decides.{nat_tests}
 use Rattle.fault.specs.declared.faults.Fault.{Fault}
-use Rattle.fault.specs.declared.causes.Cause.TheVariants.{OutOfRange, TooFewReadings}
+use Rattle.fault.specs.declared.causes.Cause.TheVariants.{TooFewReadings}
 use Rattle.fault.specs.Faults.{refusal}
 use Rattle.fault.specs.Memory.{memory_text}
 use Rattle.bank.specs.declared.reading.Reading.{Reading}
 use Rattle.bank.specs.Ports.{Port}
 use Rattle.bank.specs.Fitting.{mapped_ok}
 use Rattle.command.specs.declared.orders.Argument.{Argument}
-use Rattle.command.specs.declared.orders.Argument.TheVariants.{Absent, Number, Text}
 use Rattle.command.specs.declared.orders.Heard.TheVariants.{Blank, Select, Command}
 use Rattle.command.specs.declared.orders.Order.{Order}
 use Rattle.value.specs.Output.{format_block}
 use Rattle.value.specs.Plain.{plain_text, line}
 use Rattle.value.specs.declared.plain.Plain.{Plain as ALine}
-use Rattle.value.specs.declared.plain.Plain.TheVariants.{Done, Refused, Digit, ThreeDigits, Signed}
+use Rattle.value.specs.declared.plain.Plain.TheVariants.{Refused}
 use Rattle.value.proofs.Laws.{blocks_have_room}
 use Rattle.scale.specs.declared.answers.Answer.{Answer}
 use Rattle.scale.specs.declared.answers.Answer.TheVariants.{Silence, Line, Memory, Value}
 use Rattle.scale.specs.declared.measuring.Measurement.{Measurement}
 use Rattle.scale.specs.declared.modes.Mode.{Mode}
 use Rattle.scale.specs.declared.modes.Mode.TheVariants.{Selected, Broadcast}
-use Rattle.scale.specs.declared.orders.Task.{Task}
-use Rattle.scale.specs.declared.orders.Task.TheVariants.{KeepDead, SetFull, Tare, Weigh, Plain}
 use Rattle.scale.specs.declared.settings.Settings.{Settings}
 use Rattle.scale.specs.declared.state.State.{State}
 use Rattle.scale.specs.Answers.{answer_bytes}
@@ -31,7 +29,7 @@ use Rattle.scale.specs.Blocks.{weighings, readings_for, blocks, refused_or}
 use Rattle.scale.specs.Choices.{readings_of}
 use Rattle.scale.specs.Hearing.{in_mode, voiced, held_answer, weighs, by_task, obeys_by, obeys, admitted, settled, selected, hears, Brief, Silent}
 use Rattle.scale.specs.Measuring.{measures}
-use Rattle.scale.specs.Orders.{few, block_size, task_of}
+use Rattle.scale.specs.Orders.{Task, KeepDead, SetFull, Tare, Weigh, Plain, few, block_size, task_of}
 
 length_weighings : (s : Settings) (k : ℕ) (xs : List Reading) → length (weighings s k xs) ≡ k
 unfolding weighings
@@ -39,15 +37,10 @@ length_weighings s zero xs = refl
 length_weighings s (suc k) xs = ap suc (length_weighings s k (drop (readings_of s.averaging) xs))
 
 line_brief : (x : ALine) → length (line (plain_text x)) ≤ 1088
-line_brief Done = omega arith
-line_brief Refused = omega arith
-line_brief (Digit n) = omega arith
-line_brief (ThreeDigits n) = omega arith
-line_brief (Signed v) = omega arith
+line_brief x = grind arith
 
 memory_brief : (m : Option Fault) → length (line (memory_text m)) ≤ 1088
-memory_brief None = omega arith
-memory_brief (Some f) = omega arith
+memory_brief m = grind arith
 
 answer_brief : (a : ℕ) (x : Answer) → length (answer_bytes a x) ≤ 1088
 answer_brief a Silence = omega arith
@@ -81,18 +74,11 @@ abbrev Few : Result ℕ Fault → Type 0
 Few (Ok k) = k ≤ 64
 Few (Err f) = Unit {0}
 
-and_right : (a b : Bool) → (a && b) ≡ true → b ≡ true
-and_right true b e = e
-and_right false b e = absurd (false≢true e)
-
 few_few : (n : ℤ) (place : ℕ) → Few (few n place)
-few_few (pos n) place = cond_both (leb 1 n && leb n 64) (Ok n) (Err (refusal OutOfRange place)) Few (λ e. leb-true n 64 (and_right (leb 1 n) (leb n 64) e)) (λ _. tt)
-few_few (negsuc n) place = tt
+few_few n place = grind (arith, nat_tests)
 
 block_few : (x : Argument) (place : ℕ) → Few (block_size x place)
-block_few Absent place = omega arith
-block_few (Number n) place = few_few n place
-block_few (Text t) place = tt
+block_few x place = grind (arith, few_few)
 
 block_fits : (a k : ℕ) (s : Settings) (p : Port) → k ≤ 64 → Fits (blocks a k s p)
 block_fits a k s p h =
@@ -140,8 +126,7 @@ obeys_mute a s p (Err f) = tt
 obeys_mute a s p (Ok o) = task_mute (task_of o.form o.name) a o s p
 
 refused_brief : (m : Mode) → length (in_mode m (line (plain_text Refused)) []) ≤ 1088
-refused_brief Selected = omega arith
-refused_brief Broadcast = omega arith
+refused_brief m = grind arith
 
 settled_brief : (m : Mode) (s : State) (p : Port) (r : Result (List ℕ) Fault) → Fits r → length (settled m s p r).says ≤ 1088
 settled_brief m s p (Ok bytes) h = h

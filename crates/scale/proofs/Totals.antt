@@ -1,24 +1,23 @@
 -- The loop that takes the readings of a measurement and adds them.
-use Rattle.std.proofs.Common.{◌≡◌, ℕ, zero, suc, ◌+◌, ◌-◌, ◌*◌, ◌<◌, ◌≤◌, Bool, true, false, ◌||◌, List, [], ◌∷◌, length, drop, ℤ, pos, ◌+ℤ◌, nat_abs, Ok, Err, sym, refl, ap, ◌∙◌, subst, mul-le-mul_right, add-mul, arith}
-use lib.IntN.{+ℤ_assoc, +ℤ_idr, +ℤ_idl}
+use Rattle.std.proofs.Common.{◌≡◌, ℕ, zero, suc, ◌+◌, ◌-◌, ◌*◌, ◌<◌, ◌≤◌, List, [], ◌∷◌, length, drop, ℤ, ◌+ℤ◌, nat_abs, Ok, sym, ap, ◌∙◌, subst, mul-le-mul_right, add-mul, arith}
+use lib.IntN.{+ℤ_assoc, +ℤ_idr}
+use Rattle.std.proofs.Math.Bool.{or_assoc, or-false}
 use borrow.Author.Differences.{ints}
-use Rattle.std.proofs.lemmas.List.{drop-drop, length-drop}
+use Rattle.std.proofs.lemmas.List.{drop-drop}
 use Rattle.std.proofs.lemmas.Bool.{le-leb}
-use Rattle.fault.specs.declared.faults.Fault.{Fault}
 use Rattle.bank.specs.declared.reading.Mark.{Mark}
 use Rattle.bank.specs.declared.reading.Reading.{Reading}
 use Rattle.bank.specs.Readings.{either}
 use Rattle.bank.specs.Ports.{Port, Small, most, rest, first, first_at, rest_at}
 use Rattle.scale.specs.Measuring.{put_port, dropped, clear, summed, marks, sums}
-use Rattle.scale.proofs.Putting.{put_same, put_here, rest_put}
+use Rattle.scale.proofs.Putting.{put_here, rest_put}
 
 -- what is left after i of n readings
 pub rest_drop : (i : ℕ) (xs : List Reading) → rest (drop i xs) ≡ drop (i + 1) xs
 rest_drop i xs = one (drop i xs) ∙ drop-drop 1 i xs
   where
     one : (v : List Reading) → rest v ≡ drop 1 v
-    one [] = refl
-    one (x ∷ v) = refl
+    one v = grind arith
 
 small_drop : (n i : ℕ) (xs : List Reading) → Small n xs → Small n (drop i xs)
 small_drop n zero xs h = h
@@ -30,26 +29,13 @@ head_small n x v w e h = (subst (λ (t : List Reading). Small n t) e h).0
 
 -- an answer that was not refused is the first of what waits
 first_is : (p : ℕ) (v : List Reading) (x : Reading) → Ok x ≡ first p v → v ≡ x ∷ rest v
-first_is p [] x e = cc
-first_is p (y ∷ v) x e = let q : x ≡ y = cc in ap (λ (t : Reading). t ∷ v) (sym q)
-
-first_there : (p : ℕ) (v : List Reading) (f : Fault) → 0 < length v → Err f ≡ first p v → ⊥
-first_there p [] f h e = omega arith
-first_there p (y ∷ v) f h e = let z : ◌≡◌ {A = ℕ} 0 1 = cc in omega arith
+first_is p v x e = grind arith
 
 either_assoc : (a b c : Mark) → either (either a b) c ≡ either a (either b c)
 either_assoc a b c = λ i. record { overdriven = or_assoc a.overdriven b.overdriven c.overdriven i }
-  where
-    or_assoc : (x y z : Bool) → ((x || y) || z) ≡ (x || (y || z))
-    or_assoc true y z = refl
-    or_assoc false y z = refl
 
 either_clear : (a : Mark) → either a clear ≡ a
-either_clear a = λ i. record { overdriven = or_false a.overdriven i }
-  where
-    or_false : (x : Bool) → (x || false) ≡ x
-    or_false true = refl
-    or_false false = refl
+either_clear a = λ i. record { overdriven = or-false a.overdriven i }
 
 summed_more : (k j : ℕ) (v : List Reading) (x : Reading) → k ≡ suc j → v ≡ x ∷ rest v → summed k v ≡ x.load +ℤ summed j (rest v)
 unfolding summed
@@ -66,32 +52,14 @@ pub record Totalled (m f : ℕ → Port) (p n i : ℕ) (load : ℤ) (mark : Mark
   pub ports : f ≡ put_port m p (dropped i (m p))
   pub size : nat_abs load ≤ i * (8 * most)
 
-pub totalled_none : (m : ℕ → Port) (p n : ℕ) → Totalled m m p n 0 (pos 0) clear
-totalled_none m p n =
-    let z : n - 0 ≡ n = omega arith in
-    record {
-      sum = +ℤ_idl (summed (n - 0) (m p).waiting) ∙ ap (λ (k : ℕ). summed k (m p).waiting) z;
-      mark_is = ap (λ (k : ℕ). marks k (m p).waiting) z;
-      ports = put_same m p;
-      size = omega arith;
-    }
-
 -- the loop's end
-pub totalled_all : (m f : ℕ → Port) (p n i : ℕ) (load : ℤ) (mark : Mark) → n ≤ i → i ≤ n → n ≤ 16 → Totalled m f p n i load mark
-    → (record { load = load; mark = mark } ≡ sums n (m p).waiting) × (f ≡ put_port m p (dropped n (m p))) × (nat_abs load ≤ 128 * most)
+pub totalled_all : (m f : ℕ → Port) (p n i : ℕ) (load : ℤ) (mark : Mark) → n ≤ i → i ≤ n → Totalled m f p n i load mark → record { load = load; mark = mark } ≡ sums n (m p).waiting
 unfolding summed marks
-totalled_all m f p n i load mark h k few so =
-    let e : i ≡ n = omega arith in
+totalled_all m f p n i load mark h k so =
     let z : n - i ≡ 0 = omega arith in
     let a : load ≡ summed n (m p).waiting = sym (+ℤ_idr load) ∙ ap (λ (t : ℕ). load +ℤ summed t (drop i (m p).waiting)) (sym z) ∙ so.sum in
-    let b : mark ≡ marks n (m p).waiting = sym (either_clear mark) ∙ ap (λ (t : ℕ). either mark (marks t (drop i (m p).waiting))) (sym z) ∙ so.mark_is in (
-      (λ t. record { load = a t; mark = b t }),
-      so.ports ∙ ap (λ (t : ℕ). put_port m p (dropped t (m p))) e,
-      omega (arith, so.size, mul-le-mul_right (8 * most) (h_few h k few)),
-    )
-  where
-    h_few : n ≤ i → i ≤ n → n ≤ 16 → i ≤ 16
-    h_few h k few = omega arith
+    let b : mark ≡ marks n (m p).waiting = sym (either_clear mark) ∙ ap (λ (t : ℕ). either mark (marks t (drop i (m p).waiting))) (sym z) ∙ so.mark_is in
+    λ t. record { load = a t; mark = b t }
 
 module _ (m f : ℕ → Port) (p n i : ℕ) (load : ℤ) (mark : Mark) (low : p ≤ 31) (few : (m p).gauges ≤ 8) (small : Small (m p).gauges (m p).waiting) (more : i < n) (there : n ≤ length (m p).waiting) (so : Totalled m f p n i load mark) where
   here : (f p).waiting ≡ drop i (m p).waiting
@@ -100,14 +68,11 @@ module _ (m f : ℕ → Port) (p n i : ℕ) (load : ℤ) (mark : Mark) (low : p 
   given : first_at f p ≡ first p (drop i (m p).waiting)
   given = let a = le-leb p 31 low in rw a (ap (first p) here)
 
-  pub never : (e : Fault) → Err e ≡ first_at f p → ⊥
-  never e h = first_there p (drop i (m p).waiting) e (omega (arith, length-drop i (m p).waiting)) (h ∙ given)
-
   module _ (x : Reading) (got : Ok x ≡ first_at f p) where
     front : drop i (m p).waiting ≡ x ∷ rest (drop i (m p).waiting)
     front = first_is p (drop i (m p).waiting) x (got ∙ given)
 
-    pub light : nat_abs x.load ≤ 8 * most
+    light : nat_abs x.load ≤ 8 * most
     light = omega (arith, head_small (m p).gauges x (drop i (m p).waiting) (rest (drop i (m p).waiting)) front (small_drop (m p).gauges i (m p).waiting small), mul-le-mul_right most few)
 
     pub totalled_more : (f' : ℕ → Port) (load' : ℤ) (mark' : Mark) → f' ≡ rest_at f p → load' ≡ load +ℤ x.load → mark' ≡ either mark x.mark → Totalled m f' p n (i + 1) load' mark'

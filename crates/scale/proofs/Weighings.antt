@@ -1,14 +1,13 @@
 -- The loop that weighs one value after another.
 use Rattle.std.proofs.Common.{◌≡◌, ℕ, zero, suc, ◌+◌, ◌*◌, ◌<◌, ◌≤◌, Bool, true, cond, leb, List, [], ◌∷◌, ◌++◌, length, take, drop, set, Ok, Err, sym, refl, ap, ◌∙◌, subst, mul-le-mul_right, suc-mul, zero-mul, add-one, arith, take-suc-set}
-use Rattle.std.proofs.lemmas.List.{drop-drop, length-drop, take_all}
+use Rattle.std.proofs.lemmas.List.{drop-drop, length-drop}
 use Rattle.std.proofs.lemmas.Bool.{le-leb}
-use Rattle.fault.specs.declared.faults.Fault.{Fault}
 use Rattle.fault.specs.declared.causes.Cause.TheVariants.{TooFewReadings}
 use Rattle.fault.specs.Faults.{refusal}
 use Rattle.bank.specs.declared.reading.Reading.{Reading}
+use Rattle.bank.specs.Fitting.{mapped_ok}
 use Rattle.bank.specs.Ports.{Port}
 use Rattle.value.specs.declared.block.Measured.{Measured}
-use Rattle.scale.specs.declared.measuring.Measurement.{Measurement}
 use Rattle.scale.specs.declared.settings.Settings.{Settings}
 use Rattle.scale.specs.Blocks.{weighings, readings_for}
 use Rattle.scale.specs.Choices.{readings_of}
@@ -57,7 +56,7 @@ module _ (s : Settings) (m f : ℕ → Port) (p i : ℕ) (vs : List Measured) (m
   test : leb (readings_of s.averaging) (length (f p).waiting) ≡ true
   test = le-leb (readings_of s.averaging) (length (f p).waiting) enough_here
 
-  pub measured_here : measures p s.averaging (f p) ≡ Ok (measurement s.averaging (drop (readings_for s i) (m p).waiting))
+  measured_here : measures p s.averaging (f p) ≡ Ok (measurement s.averaging (drop (readings_for s i) (m p).waiting))
   measured_here = ap (λ (b : Bool). cond b (Ok (measurement s.averaging (f p).waiting)) (Err (refusal TooFewReadings p))) test ∙ ap (λ (a : Port). Ok (measurement s.averaging a.waiting)) here
 
   port_here : measured_port s.averaging (f p) ≡ dropped (readings_for s (suc i)) (m p)
@@ -67,22 +66,11 @@ module _ (s : Settings) (m f : ℕ → Port) (p i : ℕ) (vs : List Measured) (m
       ∙ ap (dropped (readings_of s.averaging)) here
       ∙ (λ t. record { gauges = (m p).gauges; waiting = (drop-drop (readings_of s.averaging) (i * readings_of s.averaging) (m p).waiting ∙ ap (λ (j : ℕ). drop j (m p).waiting) e) t })
 
-  pub never : (e : Fault) → Err e ≡ measures p s.averaging (f p) → ⊥
-  never e h = let q = h ∙ measured_here in let z : ◌≡◌ {A = ℕ} 0 1 = cc in omega arith
-
-  pub weighed_more : (x : Measurement) (w : Measured) (f' : ℕ → Port) → Ok x ≡ measures p s.averaging (f p) → w ≡ weighed s x → f' ≡ put_port f p (measured_port s.averaging (f p)) → Weighed s m f' p (i + 1) (set vs i w)
-  weighed_more x w f' got is at =
-      let q : Ok x ≡ Ok (measurement s.averaging (drop (readings_for s i) (m p).waiting)) = got ∙ measured_here in
-      let x_is : x ≡ measurement s.averaging (drop (readings_for s i) (m p).waiting) = cc in
+  pub weighed_more : (w : Measured) (f' : ℕ → Port) → Ok w ≡ mapped_ok (weighed s) (measures p s.averaging (f p)) → f' ≡ put_port f p (measured_port s.averaging (f p)) → Weighed s m f' p (i + 1) (set vs i w)
+  weighed_more w f' got at =
+      let q : Ok w ≡ Ok (nth s i (m p).waiting) = got ∙ ap (mapped_ok (weighed s)) measured_here in
+      let w_is : w ≡ nth s i (m p).waiting = cc in
       record {
-        so_far = ap (λ (j : ℕ). take j (set vs i w)) (add-one i) ∙ take-suc-set vs i w more ∙ (λ t. so.so_far t ++ ((is ∙ ap (weighed s) x_is) t ∷ [])) ∙ sym (weighings_more s i (m p).waiting) ∙ ap (λ (j : ℕ). weighings s j (m p).waiting) (sym (add-one i));
+        so_far = ap (λ (j : ℕ). take j (set vs i w)) (add-one i) ∙ take-suc-set vs i w more ∙ (λ t. so.so_far t ++ (w_is t ∷ [])) ∙ sym (weighings_more s i (m p).waiting) ∙ ap (λ (j : ℕ). weighings s j (m p).waiting) (sym (add-one i));
         ports = at ∙ ap (λ (g : ℕ → Port). put_port g p (measured_port s.averaging (f p))) so.ports ∙ put_again m p (dropped (readings_for s i) (m p)) (measured_port s.averaging (f p)) ∙ ap (put_port m p) port_here ∙ ap (λ (j : ℕ). put_port m p (dropped (readings_for s j) (m p))) (sym (add-one i));
       }
-
-pub weighed_all : (s : Settings) (m f : ℕ → Port) (p i : ℕ) (vs : List Measured) → length vs ≤ i → i ≤ length vs → Weighed s m f p i vs
-    → (vs ≡ weighings s (length vs) (m p).waiting) × (f ≡ put_port m p (dropped (readings_for s (length vs)) (m p)))
-weighed_all s m f p i vs h k so =
-    let e : i ≡ length vs = omega arith in (
-      sym (take_all i vs (omega arith)) ∙ so.so_far ∙ ap (λ (j : ℕ). weighings s j (m p).waiting) e,
-      so.ports ∙ ap (λ (j : ℕ). put_port m p (dropped (readings_for s j) (m p))) e,
-    )

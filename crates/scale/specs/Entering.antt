@@ -1,6 +1,8 @@
 -- Entering a setting.
-use Rattle.std.specs.Prelude.{ℕ, cond, ℤ, pos, negsuc, Some, None, Option, nat_le}
+use Rattle.std.specs.Prelude.{◌≡◌, ℕ, cond, ℤ, pos, negsuc, Some, None, Option, Result, nat_le}
 use Rattle.std.specs.Option.{option_map}
+use Rattle.std.specs.Result.{result_ok}
+use Rattle.value.specs.declared.unknown.UnknownNumber.{UnknownNumber}
 use Rattle.command.specs.declared.orders.Mnemonic.{Mnemonic}
 use Rattle.command.specs.declared.orders.Mnemonic.TheVariants.{Cof, Icr, Nov, Rsn, Ldw, Lwt, Tar, Tas, Tav, Msv, Spw, Dpw, Tdd, Res, Esr}
 use Rattle.value.specs.Output.{numbered_format}
@@ -12,6 +14,11 @@ use Rattle.scale.specs.Settings.{with_format, with_averaging, with_nominal, with
 abbrev pub byte_of : ℤ → Option ℕ
 byte_of (pos n) = cond (nat_le n 255) (Some n) None
 byte_of (negsuc n) = None
+
+-- what a type gives for a byte, without its error
+abbrev pub ByByte : {T : Type 0} → (ℕ → Result T UnknownNumber → Type 0) → Option ℕ → Option T → Type 0
+ByByte {T = T} gives None x = x ≡ None
+ByByte {T = T} gives (Some b) x = (r : Result T UnknownNumber) × gives b r × (x ≡ result_ok r)
 
 -- dead load, full load and tare, which no such entry alters
 abbrev pub loads_of : Settings → ℤ × ℤ × ℤ

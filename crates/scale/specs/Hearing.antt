@@ -3,6 +3,7 @@ use Rattle.std.specs.Prelude.{◌≡◌, ℕ, ◌≤◌, cond, not, ◌&&◌, Li
 use Rattle.fault.specs.declared.faults.Fault.{Fault}
 use Rattle.fault.specs.declared.causes.Cause.TheVariants.{ShortBuffer, PasswordClosed}
 use Rattle.fault.specs.Faults.{refusal}
+pub use Rattle.bank.specs.Addresses.{number_of}
 use Rattle.bank.specs.Ports.{Port}
 use Rattle.bank.specs.Fitting.{mapped_ok}
 use Rattle.command.specs.Conditions.{needs_password, broadcast_of}
@@ -13,13 +14,10 @@ use Rattle.command.specs.declared.orders.Heard.TheVariants.{Blank, Select, Comma
 use Rattle.command.specs.declared.orders.Order.{Order}
 use Rattle.value.specs.Plain.{plain_text, line}
 use Rattle.value.specs.declared.plain.Plain.TheVariants.{Refused}
-use Rattle.scale.specs.declared.address.Address.{Address}
 use Rattle.scale.specs.declared.answers.Answer.{Answer}
 use Rattle.scale.specs.declared.answers.Answer.TheVariants.{Silence, Value}
 use Rattle.scale.specs.declared.modes.Mode.{Mode}
 use Rattle.scale.specs.declared.modes.Mode.TheVariants.{Selected, Broadcast}
-use Rattle.scale.specs.declared.orders.Task.{Task}
-use Rattle.scale.specs.declared.orders.Task.TheVariants.{KeepDead, SetFull, Tare, Weigh, Plain}
 use Rattle.scale.specs.declared.state.State.{State}
 use Rattle.scale.specs.declared.state.Ticket.{Ticket}
 use Rattle.scale.specs.Answers.{answer_bytes}
@@ -27,12 +25,9 @@ use Rattle.scale.specs.Blocks.{blocks, block_port, holding, refused_or}
 use Rattle.scale.specs.Calibrating.{Acted, dead_loads, full_loads, tares}
 use Rattle.scale.specs.Entries.{Said, enters}
 use Rattle.scale.specs.Measuring.{measures, measured_port}
-use Rattle.scale.specs.Orders.{task_of, block_size}
+use Rattle.scale.specs.Orders.{Task, KeepDead, SetFull, Tare, Weigh, Plain, task_of, block_size}
 use Rattle.scale.specs.Queries.{asks}
 use Rattle.scale.specs.States.{with_held, with_memory}
-
-abbrev pub number_of : Address → ℕ
-number_of a = a.number
 
 -- a scale and its port after an order, and the bytes of its answer or why it refuses
 pub record Step : Type 0 where

@@ -9,7 +9,6 @@ use Rattle.bank.specs.Readings.{either}
 use Rattle.bank.specs.Ports.{Port}
 use Rattle.scale.specs.declared.averaging.Averaging.{Averaging}
 use Rattle.scale.specs.declared.measuring.Measurement.{Measurement}
-use Rattle.scale.specs.declared.measuring.Sum.{Sum}
 use Rattle.scale.specs.Choices.{readings_of, weight_of}
 
 -- what stands at each port, once v is put at p
@@ -40,15 +39,16 @@ marks zero xs = clear
 marks (suc n) [] = clear
 marks (suc n) (x ∷ xs) = either x.mark (marks n xs)
 
-abbrev pub sums : ℕ → List Reading → Sum
+-- the first n readings as one
+abbrev pub sums : ℕ → List Reading → Reading
 sums n xs = record { load = summed n xs; mark = marks n xs }
 
 -- a sum with one reading more
-abbrev pub one_more : Sum → Reading → Sum
+abbrev pub one_more : Reading → Reading → Reading
 one_more s x = record { load = s.load +ℤ x.load; mark = either s.mark x.mark }
 
 -- the measurement that a sum makes: times 16 over the number of readings, in 1/16,000 digit
-abbrev pub mean_of : Sum → Averaging → Measurement
+abbrev pub mean_of : Reading → Averaging → Measurement
 mean_of s v = record { load = s.load *ℤ weight_of v; mark = s.mark }
 
 -- a measurement of the first readings that wait

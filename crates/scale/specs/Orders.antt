@@ -10,8 +10,14 @@ use Rattle.command.specs.declared.orders.Form.TheVariants.{Entry, Query}
 use Rattle.command.specs.declared.orders.Mnemonic.{Mnemonic}
 use Rattle.command.specs.declared.orders.Mnemonic.TheVariants.{Cof, Icr, Nov, Rsn, Ldw, Lwt, Tar, Tas, Tav, Msv, Spw, Dpw, Tdd, Res, Esr}
 use Rattle.command.specs.declared.texts.Text.{Text as TheText}
-use Rattle.scale.specs.declared.orders.Task.{Task}
-use Rattle.scale.specs.declared.orders.Task.TheVariants.{KeepDead, SetFull, Tare, Weigh, Plain}
+
+-- what needs the gauges: the two calibrations, taring and weighing; and all else
+pub data Task : Type 0 where
+  KeepDead : Task
+  SetFull : Task
+  Tare : Task
+  Weigh : Task
+  Plain : Task
 
 abbrev pub entry_task : Mnemonic → Task
 entry_task Ldw = KeepDead

@@ -3,8 +3,8 @@ ghost use Rattle.std.specs.Prelude.{◌≡◌, length};
 ghost use Rattle.value.specs.Written.{granted, written};
 ghost use Rattle.scale.specs.Answers.{answer_bytes};
 
-use crate::address::Address;
 use crate::state::Ticket;
+use bank::Address;
 use fault::{Fault, memory_text};
 use value::plain::{Plain, write_line};
 

@@ -1,43 +1,44 @@
 // How many readings a measurement takes.
 ghost use Rattle.std.specs.Prelude.{◌≡◌, ◌*◌};
+ghost use Rattle.value.specs.Numbers.{known};
 ghost use Rattle.scale.specs.Choices.{averaging_number, averaging_numbered, readings_of, weight_of};
+
+use value::output::UnknownNumber;
 
 // A measurement is the mean of so many readings.
 #[derive(Clone, Copy)]
 pub enum Averaging {
-    One,
-    Two,
-    Four,
-    Eight,
-    Sixteen,
+    One = 0,
+    Two = 1,
+    Four = 2,
+    Eight = 3,
+    Sixteen = 4,
+}
+
+impl TryFrom<u8> for Averaging {
+    type Error = UnknownNumber;
+
+    ghost try_from_gives = { λ n averaging. averaging ≡ known n (averaging_numbered n) };
+
+    // The averaging with this number, the power of two.
+    fn try_from(number: u8) -> Result<Self, UnknownNumber> {
+        match number {
+            0 => Ok(Averaging::One),
+            1 => Ok(Averaging::Two),
+            2 => Ok(Averaging::Four),
+            3 => Ok(Averaging::Eight),
+            4 => Ok(Averaging::Sixteen),
+            _ => Err(UnknownNumber(number)),
+        }
+    }
 }
 
 impl Averaging {
-    // The averaging with this number, the power of two.
-    pub(crate) fn from_number(number: u8) -> Option<Averaging>
-        ensures { result ≡ averaging_numbered number }
-    {
-        match number {
-            0 => Some(Averaging::One),
-            1 => Some(Averaging::Two),
-            2 => Some(Averaging::Four),
-            3 => Some(Averaging::Eight),
-            4 => Some(Averaging::Sixteen),
-            _ => None,
-        }
-    }
-
     // The power of two.
     pub(crate) fn number(self) -> u8
         ensures { result ≡ averaging_number self }
     {
-        match self {
-            Averaging::One => 0,
-            Averaging::Two => 1,
-            Averaging::Four => 2,
-            Averaging::Eight => 3,
-            Averaging::Sixteen => 4,
-        }
+        self as u8
     }
 
     // How many readings a measurement takes.

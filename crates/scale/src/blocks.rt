@@ -3,15 +3,14 @@ ghost use Rattle.std.specs.Prelude.{◌≡◌, ◌*◌, ◌≤◌, length, Ok};
 ghost use Rattle.bank.specs.Fitting.{mapped_ok};
 ghost use Rattle.value.specs.Output.{format_block};
 ghost use Rattle.value.specs.Written.{granted, written};
-ghost use Rattle.scale.specs.Bounds.{Bounded, Small};
 ghost use Rattle.scale.specs.Measuring.{put_port, dropped, measures, measured_port};
 ghost use Rattle.scale.specs.Blocks.{weighings, readings_for, blocks, block_port, written_by, holding, refused_or};
 
-use crate::address::Address;
-use crate::measuring::{enough, measure};
+use crate::measuring::enough;
+use crate::scale::Scale;
 use crate::settings::Settings;
-use crate::state::{State, Ticket};
-use bank::GaugeBank;
+use crate::state::Ticket;
+use bank::{Address, GaugeBank};
 use fault::Fault;
 use value::block::Measured;
 
@@ -24,7 +23,7 @@ const UNMEASURED: Measured = Measured {
 // The most values of a block.
 const MOST_VALUES: usize = 64;
 
-impl Settings {
+impl Scale {
     // Weighs as often as there are places, for which readings enough wait.
     fn weigh_all<B: GaugeBank>(
         &self,
@@ -32,15 +31,13 @@ impl Settings {
         address: Address,
         values: &mut [Measured],
     ) -> Result<(), Fault>
-        requires small { Small self.now }
-        requires there { readings_for self.now (length values.old) ≤ length (B.shows bank.old address.number).waiting }
+        requires { readings_for self.now.state.force (length values.old) ≤ length (B.shows bank.old address.number).waiting }
         ensures answer { result ≡ Ok tt }
-        ensures values { values.new ≡ weighings self.now (length values.old) (B.shows bank.old address.number).waiting }
-        ensures after { B.shows bank.new ≡ put_port (B.shows bank.old) address.number (dropped (readings_for self.now (length values.old)) (B.shows bank.old address.number)) }
+        ensures values { values.new ≡ weighings self.now.state.force (length values.old) (B.shows bank.old address.number).waiting }
+        ensures after { B.shows bank.new ≡ put_port (B.shows bank.old) address.number (dropped (readings_for self.now.state.force (length values.old)) (B.shows bank.old address.number)) }
     {
-        for i in 0..values.len() {
-            let measurement = measure(bank, address, self.averaging)?;
-            values[i] = self.weigh(measurement);
+        for place in values.iter_mut() {
+            *place = self.weigh(bank, address)?;
         }
         Ok(())
     }
@@ -53,14 +50,18 @@ impl Settings {
         values: &mut [Measured],
         out: &mut [u8],
     ) -> Result<usize, Fault>
-        requires small { Small self.now }
-        requires there { readings_for self.now (length values.old) ≤ length (B.shows bank.old address.number).waiting }
-        ensures answer { result ≡ Ok (length (granted out.old (format_block self.now.format self.now.nominal address.number (weighings self.now (length values.old) (B.shows bank.old address.number).waiting)))) }
-        ensures buffer { out.new ≡ written out.old (format_block self.now.format self.now.nominal address.number (weighings self.now (length values.old) (B.shows bank.old address.number).waiting)) }
-        ensures after { B.shows bank.new ≡ put_port (B.shows bank.old) address.number (dropped (readings_for self.now (length values.old)) (B.shows bank.old address.number)) }
+        requires { readings_for self.now.state.force (length values.old) ≤ length (B.shows bank.old address.number).waiting }
+        ensures answer { result ≡ Ok (length (granted out.old (format_block self.now.state.force.format self.now.state.force.nominal address.number (weighings self.now.state.force (length values.old) (B.shows bank.old address.number).waiting)))) }
+        ensures buffer { out.new ≡ written out.old (format_block self.now.state.force.format self.now.state.force.nominal address.number (weighings self.now.state.force (length values.old) (B.shows bank.old address.number).waiting)) }
+        ensures after { B.shows bank.new ≡ put_port (B.shows bank.old) address.number (dropped (readings_for self.now.state.force (length values.old)) (B.shows bank.old address.number)) }
     {
         self.weigh_all(bank, address, values)?;
-        Ok(self.format.write(values, address.number, self.nominal, out))
+        let Settings {
+            format,
+            nominal,
+            ..
+        } = self.state.force;
+        Ok(format.write(values, address.number, nominal, out))
     }
 
     // Writes a block of so many values, or refuses where too few readings wait for all of them.
@@ -71,43 +72,38 @@ impl Settings {
         count: u8,
         out: &mut [u8],
     ) -> Result<usize, Fault>
-        requires small { Small self.now }
-        requires few { count ≤ 64 }
-        ensures answer { result ≡ mapped_ok (λ bytes. length (granted out.old bytes)) (blocks address.number count self.now (B.shows bank.old address.number)) }
-        ensures buffer { out.new ≡ written_by out.old (blocks address.number count self.now (B.shows bank.old address.number)) }
-        ensures after { B.shows bank.new ≡ put_port (B.shows bank.old) address.number (block_port count self.now (B.shows bank.old address.number)) }
+        requires { count ≤ 64 }
+        ensures answer { result ≡ mapped_ok (λ bytes. length (granted out.old bytes)) (blocks address.number count self.now.state.force (B.shows bank.old address.number)) }
+        ensures buffer { out.new ≡ written_by out.old (blocks address.number count self.now.state.force (B.shows bank.old address.number)) }
+        ensures after { B.shows bank.new ≡ put_port (B.shows bank.old) address.number (block_port count self.now.state.force (B.shows bank.old address.number)) }
     {
         enough(
             bank,
             address,
-            u16::from(count) * u16::from(self.averaging.readings()),
+            u16::from(count) * u16::from(self.state.force.averaging.readings()),
         )?;
         if count == 1 {
             return self.write_all(bank, address, &mut [UNMEASURED], out);
         }
+        // Kept: (a) an array of the most values with their count beside it: a scale asks for no memory.
         let mut values = [UNMEASURED; MOST_VALUES];
-        self.write_all(bank, address, &mut values[0..count as usize], out)
+        self.write_all(bank, address, &mut values[..usize::from(count)], out)
     }
-}
 
-impl State {
     // Measures one value and holds it until the scale is selected.
     pub(crate) fn hold<B: GaugeBank>(
         &mut self,
         bank: &mut B,
         address: Address,
     ) -> Result<usize, Fault>
-        requires { Bounded self.old }
-        ensures answer { result ≡ mapped_ok length (refused_or (measures address.number self.old.force.averaging (B.shows bank.old address.number))) }
-        ensures state { self.new ≡ holding self.old (measures address.number self.old.force.averaging (B.shows bank.old address.number)) }
-        ensures ports { B.shows bank.new ≡ put_port (B.shows bank.old) address.number (measured_port self.old.force.averaging (B.shows bank.old address.number)) }
-        ensures bounded { Bounded self.new }
+        ensures answer { result ≡ mapped_ok length (refused_or (measures address.number self.old.state.force.averaging (B.shows bank.old address.number))) }
+        ensures state { self.new.state ≡ holding self.old.state (measures address.number self.old.state.force.averaging (B.shows bank.old address.number)) }
+        ensures ports { B.shows bank.new ≡ put_port (B.shows bank.old) address.number (measured_port self.old.state.force.averaging (B.shows bank.old address.number)) }
     {
-        let measurement = measure(bank, address, self.force.averaging)?;
-        self.held = Some(Ticket {
-            measured: self.force.weigh(measurement),
-            format: self.force.format,
-            nominal: self.force.nominal,
+        self.state.held = Some(Ticket {
+            measured: self.weigh(bank, address)?,
+            format: self.state.force.format,
+            nominal: self.state.force.nominal,
         });
         Ok(0)
     }

@@ -1,31 +1,28 @@
 // Calibrating and taring: what a scale does with loads of its own port.
 ghost use Rattle.std.specs.Prelude.{◌≡◌, ◌^◌, ◌≤◌, IfOk, unsigned_abs};
-ghost use Rattle.scale.specs.Bounds.{Bounded};
 ghost use Rattle.scale.specs.Measuring.{put_port};
 ghost use Rattle.scale.specs.States.{calibrated};
 ghost use Rattle.scale.specs.Calibrating.{load_given, in_units, given_port, dead_loads, full_loads, tares};
 
-use crate::address::Address;
 use crate::answers::Answer;
 use crate::averaging::Averaging;
 use crate::display::Display;
 use crate::measuring::measure;
+use crate::scale::Scale;
 use crate::state::State;
 use crate::weighing::less;
-use bank::GaugeBank;
+use bank::{Address, GaugeBank};
 use command::{Argument, Order};
 use fault::{Cause, Fault};
 use value::plain::Plain;
-
-// Loads are kept in this fraction of a digit.
-const PER_DIGIT: i64 = 16_000;
+use value::scaling::PER_DIGIT;
 
 // A load in whole digits.
 fn entered_load(digits: i32) -> i64
     ensures value { result ≡ in_units digits }
     ensures bound { unsigned_abs result ≤ 2 ^ 45 }
 {
-    digits as i64 * PER_DIGIT
+    i64::from(digits) * PER_DIGIT
 }
 
 // The load of a calibration: entered in digits, or else measured.
@@ -47,55 +44,6 @@ fn given_load<B: GaugeBank>(
 }
 
 impl State {
-    // Keeps a dead load waiting for its full load.
-    pub(crate) fn keep_dead<B: GaugeBank>(
-        &mut self,
-        bank: &mut B,
-        address: Address,
-        order: Order,
-    ) -> Result<Answer, Fault>
-        requires { Bounded self.old }
-        ensures answer { result ≡ (dead_loads address.number order self.old (B.shows bank.old address.number)).reply }
-        ensures state { self.new ≡ (dead_loads address.number order self.old (B.shows bank.old address.number)).state }
-        ensures ports { B.shows bank.new ≡ put_port (B.shows bank.old) address.number (dead_loads address.number order self.old (B.shows bank.old address.number)).port }
-        ensures bounded { Bounded self.new }
-    {
-        if self.force.nominal > 0 {
-            return Err(Cause::NominalSet.at(address.number as usize));
-        }
-        let dead = given_load(bank, address, self.force.averaging, order)?;
-        self.pending = Some(dead);
-        Ok(Answer::Line(Plain::Done))
-    }
-
-    // Puts the waiting dead load and a full load in force, and stores them.
-    pub(crate) fn set_full<B: GaugeBank>(
-        &mut self,
-        bank: &mut B,
-        address: Address,
-        order: Order,
-    ) -> Result<Answer, Fault>
-        requires { Bounded self.old }
-        ensures answer { result ≡ (full_loads address.number order self.old (B.shows bank.old address.number)).reply }
-        ensures state { self.new ≡ (full_loads address.number order self.old (B.shows bank.old address.number)).state }
-        ensures ports { B.shows bank.new ≡ put_port (B.shows bank.old) address.number (full_loads address.number order self.old (B.shows bank.old address.number)).port }
-        ensures bounded { Bounded self.new }
-    {
-        let place = address.number as usize;
-        if self.force.nominal > 0 {
-            return Err(Cause::NominalSet.at(place));
-        }
-        let Some(dead) = self.pending else {
-            return Err(Cause::NoDeadLoad.at(place));
-        };
-        let full = given_load(bank, address, self.force.averaging, order)?;
-        if full <= dead {
-            return Err(Cause::SpanNotPositive.at(place));
-        }
-        self.calibrate(dead, full);
-        Ok(Answer::Line(Plain::Done))
-    }
-
     // A characteristic in force and stored at once.
     fn calibrate(&mut self, dead: i64, full: i64)
         ensures { self.new ≡ calibrated self.old dead full }
@@ -106,6 +54,51 @@ impl State {
         self.stored.full = full;
         self.pending = None;
     }
+}
+
+impl Scale {
+    // Keeps a dead load waiting for its full load.
+    pub(crate) fn keep_dead<B: GaugeBank>(
+        &mut self,
+        bank: &mut B,
+        address: Address,
+        order: Order,
+    ) -> Result<Answer, Fault>
+        ensures answer { result ≡ (dead_loads address.number order self.old.state (B.shows bank.old address.number)).reply }
+        ensures state { self.new.state ≡ (dead_loads address.number order self.old.state (B.shows bank.old address.number)).state }
+        ensures ports { B.shows bank.new ≡ put_port (B.shows bank.old) address.number (dead_loads address.number order self.old.state (B.shows bank.old address.number)).port }
+    {
+        if self.state.force.nominal > 0 {
+            return Err(Cause::NominalSet.at(address.index()));
+        }
+        let dead = given_load(bank, address, self.state.force.averaging, order)?;
+        self.state.pending = Some(dead);
+        Ok(Answer::Line(Plain::Done))
+    }
+
+    // Puts the waiting dead load and a full load in force, and stores them.
+    pub(crate) fn set_full<B: GaugeBank>(
+        &mut self,
+        bank: &mut B,
+        address: Address,
+        order: Order,
+    ) -> Result<Answer, Fault>
+        ensures answer { result ≡ (full_loads address.number order self.old.state (B.shows bank.old address.number)).reply }
+        ensures state { self.new.state ≡ (full_loads address.number order self.old.state (B.shows bank.old address.number)).state }
+        ensures ports { B.shows bank.new ≡ put_port (B.shows bank.old) address.number (full_loads address.number order self.old.state (B.shows bank.old address.number)).port }
+    {
+        let place = address.index();
+        if self.state.force.nominal > 0 {
+            return Err(Cause::NominalSet.at(place));
+        }
+        let dead = self.state.pending.ok_or(Cause::NoDeadLoad.at(place))?;
+        let full = given_load(bank, address, self.state.force.averaging, order)?;
+        if full <= dead {
+            return Err(Cause::SpanNotPositive.at(place));
+        }
+        self.state.calibrate(dead, full);
+        Ok(Answer::Line(Plain::Done))
+    }
 
     // Makes the gross load the tare, and shows the net weight.
     pub(crate) fn take_tare<B: GaugeBank>(
@@ -113,15 +106,13 @@ impl State {
         bank: &mut B,
         address: Address,
     ) -> Result<Answer, Fault>
-        requires { Bounded self.old }
-        ensures answer { result ≡ (tares address.number self.old (B.shows bank.old address.number)).reply }
-        ensures state { self.new ≡ (tares address.number self.old (B.shows bank.old address.number)).state }
-        ensures ports { B.shows bank.new ≡ put_port (B.shows bank.old) address.number (tares address.number self.old (B.shows bank.old address.number)).port }
-        ensures bounded { Bounded self.new }
+        ensures answer { result ≡ (tares address.number self.old.state (B.shows bank.old address.number)).reply }
+        ensures state { self.new.state ≡ (tares address.number self.old.state (B.shows bank.old address.number)).state }
+        ensures ports { B.shows bank.new ≡ put_port (B.shows bank.old) address.number (tares address.number self.old.state (B.shows bank.old address.number)).port }
     {
-        let measurement = measure(bank, address, self.force.averaging)?;
-        self.force.tare = less(measurement.load, self.force.dead);
-        self.force.display = Display::Net;
+        let measurement = measure(bank, address, self.state.force.averaging)?;
+        self.state.force.tare = less(measurement.load, self.state.force.dead);
+        self.state.force.display = Display::Net;
         Ok(Answer::Line(Plain::Done))
     }
 }

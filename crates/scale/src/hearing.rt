@@ -1,21 +1,18 @@
 // One scale hears one command.
-ghost use Rattle.std.specs.Prelude.{◌≡◌, ◌≤◌, ◌++◌, length, drop, if◌then◌else◌, Some, None, nat_le};
-ghost use Rattle.std.specs.Option.{option_map};
-ghost use Rattle.scale.specs.Bounds.{Bounded};
+ghost use Rattle.std.specs.Prelude.{◌≡◌, ◌≤◌, ◌++◌, length, drop, None};
 ghost use Rattle.scale.specs.Measuring.{put_port};
 ghost use Rattle.bank.specs.Ports.{none};
 ghost use Rattle.value.specs.Written.{granted, written};
 ghost use Rattle.scale.specs.States.{fresh, with_held};
 ghost use Rattle.scale.specs.Laws.{ScaleLaws};
-ghost use Rattle.scale.specs.Hearing.{number_of, refused, held_answer, selected, ordered, hears, within, Brief, Silent};
+ghost use Rattle.scale.specs.Hearing.{refused, held_answer, selected, ordered, hears, within, Brief, Silent};
 
-use crate::address::Address;
 use crate::answers::Answer;
 use crate::modes::Mode;
 use crate::scale::Scale;
 use crate::settings::Settings;
 use crate::state::State;
-use bank::GaugeBank;
+use bank::{Address, GaugeBank};
 use command::{Heard, Order};
 use fault::{Cause, Fault};
 use value::plain::Plain;
@@ -27,75 +24,55 @@ pub struct Hearing {
     pub fault: Option<Fault>,
 }
 
-impl Address {
-    // The address with this number, where there is one.
-    pub fn new(number: u8) -> Option<Address>
-        ensures { option_map number_of result ≡ (if nat_le number 31 then Some number else None) }
-    {
-        if number > 31 {
-            return None;
-        }
-        Some(Address { number })
-    }
-}
+// Nothing was written, and nothing refused.
+const NOTHING: Hearing = Hearing {
+    written: 0,
+    fault: None,
+};
 
 // Any answer has room in so many bytes.
-const ROOM: usize = 1088;
+pub const ROOM: usize = 1088;
 
-impl State {
+impl Scale {
     // Remembers a refusal; the selected scale says `?`.
     fn refuse(&mut self, mode: Mode, fault: Fault, out: &mut [u8]) -> Hearing
-        requires { Bounded self.old }
-        ensures state { self.new ≡ (refused mode fault self.old none).state }
-        ensures count { result.written ≡ length (granted out.old (refused mode fault self.old none).says) }
-        ensures refusal { result.fault ≡ (refused mode fault self.old none).fault }
-        ensures buffer { out.new ≡ written out.old (refused mode fault self.old none).says }
-        ensures bounded { Bounded self.new }
+        ensures state { self.new.state ≡ (refused mode fault self.old.state none).state }
+        ensures count { result.written ≡ length (granted out.old (refused mode fault self.old.state none).says) }
+        ensures refusal { result.fault ≡ (refused mode fault self.old.state none).fault }
+        ensures buffer { out.new ≡ written out.old (refused mode fault self.old.state none).says }
     {
-        self.memory = Some(fault);
+        self.state.memory = Some(fault);
         match mode {
             Mode::Selected => Hearing {
                 written: Plain::Refused.write(out),
                 fault: Some(fault),
             },
-            Mode::Broadcast => Hearing {
-                written: 0,
-                fault: None,
-            },
+            Mode::Broadcast => NOTHING,
         }
     }
 
     // Takes the held value out, to be handed out once.
     fn take_held(&mut self) -> Answer
-        requires { Bounded self.old }
-        ensures value { result ≡ held_answer self.old.held }
-        ensures state { self.new ≡ with_held self.old None }
-        ensures bounded { Bounded self.new }
+        ensures value { result ≡ held_answer self.old.state.held }
+        ensures state { self.new.state ≡ with_held self.old.state None }
     {
-        match self.held.take() {
-            None => Answer::Silence,
-            Some(ticket) => Answer::Value(ticket),
-        }
+        let held = self.state.held.take();
+        held.map_or(Answer::Silence, Answer::Value)
     }
 
     // Hands out the held value, once; the broadcast select leaves it.
     fn select(&mut self, mode: Mode, address: Address, out: &mut [u8]) -> Hearing
-        requires { Bounded self.old }
-        ensures state { self.new ≡ (selected mode address.number self.old none).state }
-        ensures count { result.written ≡ length (granted out.old (selected mode address.number self.old none).says) }
-        ensures refusal { result.fault ≡ (selected mode address.number self.old none).fault }
-        ensures buffer { out.new ≡ written out.old (selected mode address.number self.old none).says }
-        ensures bounded { Bounded self.new }
+        ensures state { self.new.state ≡ (selected mode address.number self.old.state none).state }
+        ensures count { result.written ≡ length (granted out.old (selected mode address.number self.old.state none).says) }
+        ensures refusal { result.fault ≡ (selected mode address.number self.old.state none).fault }
+        ensures buffer { out.new ≡ written out.old (selected mode address.number self.old.state none).says }
     {
         match mode {
             Mode::Selected => Hearing {
                 written: self.take_held().write(address, out),
                 fault: None,
             },
-            Mode::Broadcast => Hearing {
-                written: 0,
-                fault: None,
-            },
+            Mode::Broadcast => NOTHING,
         }
     }
 
@@ -108,13 +85,11 @@ impl State {
         bank: &mut B,
         out: &mut [u8],
     ) -> Hearing
-        requires { Bounded self.old }
-        ensures state { self.new ≡ (ordered mode address.number order self.old (B.shows bank.old address.number)).state }
-        ensures ports { B.shows bank.new ≡ put_port (B.shows bank.old) address.number (ordered mode address.number order self.old (B.shows bank.old address.number)).port }
-        ensures count { result.written ≡ length (granted out.old (ordered mode address.number order self.old (B.shows bank.old address.number)).says) }
-        ensures refusal { result.fault ≡ (ordered mode address.number order self.old (B.shows bank.old address.number)).fault }
-        ensures buffer { out.new ≡ written out.old (ordered mode address.number order self.old (B.shows bank.old address.number)).says }
-        ensures bounded { Bounded self.new }
+        ensures state { self.new.state ≡ (ordered mode address.number order self.old.state (B.shows bank.old address.number)).state }
+        ensures ports { B.shows bank.new ≡ put_port (B.shows bank.old) address.number (ordered mode address.number order self.old.state (B.shows bank.old address.number)).port }
+        ensures count { result.written ≡ length (granted out.old (ordered mode address.number order self.old.state (B.shows bank.old address.number)).says) }
+        ensures refusal { result.fault ≡ (ordered mode address.number order self.old.state (B.shows bank.old address.number)).fault }
+        ensures buffer { out.new ≡ written out.old (ordered mode address.number order self.old.state (B.shows bank.old address.number)).says }
     {
         match self.obey(mode, address, order, bank, out) {
             Ok(written) => Hearing {
@@ -125,8 +100,9 @@ impl State {
         }
     }
 
-    // Hears what was read of one command.
-    fn hear<B: GaugeBank>(
+    // Responds to what was read of one command.
+    #[tactic(auto, unfolding(crate::specs::Hearing::hears))]
+    fn respond<B: GaugeBank>(
         &mut self,
         mode: Mode,
         address: Address,
@@ -134,27 +110,20 @@ impl State {
         bank: &mut B,
         out: &mut [u8],
     ) -> Hearing
-        requires { Bounded self.old }
-        ensures state { self.new ≡ (hears mode address.number heard self.old (B.shows bank.old address.number)).state }
-        ensures ports { B.shows bank.new ≡ put_port (B.shows bank.old) address.number (hears mode address.number heard self.old (B.shows bank.old address.number)).port }
-        ensures count { result.written ≡ length (granted out.old (hears mode address.number heard self.old (B.shows bank.old address.number)).says) }
-        ensures refusal { result.fault ≡ (hears mode address.number heard self.old (B.shows bank.old address.number)).fault }
-        ensures buffer { out.new ≡ written out.old (hears mode address.number heard self.old (B.shows bank.old address.number)).says }
-        ensures bounded { Bounded self.new }
+        ensures state { self.new.state ≡ (hears mode address.number heard self.old.state (B.shows bank.old address.number)).state }
+        ensures ports { B.shows bank.new ≡ put_port (B.shows bank.old) address.number (hears mode address.number heard self.old.state (B.shows bank.old address.number)).port }
+        ensures count { result.written ≡ length (granted out.old (hears mode address.number heard self.old.state (B.shows bank.old address.number)).says) }
+        ensures refusal { result.fault ≡ (hears mode address.number heard self.old.state (B.shows bank.old address.number)).fault }
+        ensures buffer { out.new ≡ written out.old (hears mode address.number heard self.old.state (B.shows bank.old address.number)).says }
     {
         match heard {
             Err(fault) => self.refuse(mode, fault, out),
-            Ok(Heard::Blank) => Hearing {
-                written: 0,
-                fault: None,
-            },
+            Ok(Heard::Blank) => NOTHING,
             Ok(Heard::Select(_)) => self.select(mode, address, out),
             Ok(Heard::Command(order)) => self.hear_order(mode, address, order, bank, out),
         }
     }
-}
 
-impl Scale {
     // A new scale has the factory settings, stored too, and is as after a restart.
     pub fn new() -> Scale
         ensures { result.state ≡ fresh }
@@ -197,6 +166,6 @@ impl Scale {
                 fault: Some(Cause::ShortBuffer.at(out.len())),
             };
         }
-        self.state.hear(mode, address, heard, bank, out)
+        self.respond(mode, address, heard, bank, out)
     }
 }

@@ -1,7 +1,6 @@
 // One scale: its settings, measuring, and what it does with a command.
 #![tactic(auto)]
 
-mod address;
 mod answers;
 mod averaging;
 mod blocks;
@@ -21,10 +20,10 @@ mod state;
 mod step;
 mod weighing;
 
-pub use address::Address;
 pub use averaging::Averaging;
+pub use bank::Address;
 pub use display::Display;
-pub use hearing::Hearing;
+pub use hearing::{Hearing, ROOM};
 pub use modes::Mode;
 pub use scale::Scale;
 pub use settings::Settings;

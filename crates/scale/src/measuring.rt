@@ -3,9 +3,8 @@ ghost use Rattle.std.specs.Prelude.{◌≡◌, ℕ, ◌*◌, ◌^◌, ◌≤◌,
 ghost use Rattle.bank.specs.Ports.{most};
 ghost use Rattle.scale.specs.Measuring.{put_port, dropped, enough_for, one_more, mean_of, sums, measures, measured_port};
 
-use crate::address::Address;
 use crate::averaging::Averaging;
-use bank::{GaugeBank, Mark, Reading};
+use bank::{Address, GaugeBank, Mark, Reading};
 use fault::{Cause, Fault};
 
 // A load in 1/16,000 digit, and the mark of its readings.
@@ -15,36 +14,28 @@ pub struct Measurement {
     pub mark: Mark,
 }
 
-// The sum of some readings, in thousandths of a digit, and their mark.
-#[derive(Clone, Copy)]
-pub struct Sum {
-    pub load: i64,
-    pub mark: Mark,
+// A sum of readings with one reading more.
+// Kept: (a) a box adds two readings alike; one call for both would be public, may ask for no bounds, and so could not promise the exact sum.
+fn with(sum: Reading, reading: Reading) -> Reading
+    requires so_far { unsigned_abs sum.load ≤ 2 ^ 60 }
+    requires one { unsigned_abs reading.load ≤ 2 ^ 60 }
+    ensures { result ≡ one_more sum reading }
+{
+    Reading {
+        load: sum.load + reading.load,
+        mark: sum.mark.joined(reading.mark),
+    }
 }
 
-impl Sum {
-    // One reading more.
-    fn with(self, reading: Reading) -> Sum
-        requires so_far { unsigned_abs self.load ≤ 2 ^ 60 }
-        requires one { unsigned_abs reading.load ≤ 2 ^ 60 }
-        ensures { result ≡ one_more self reading }
-    {
-        Sum {
-            load: self.load + reading.load,
-            mark: self.mark.joined(reading.mark),
-        }
-    }
-
-    // The measurement that so many readings make: their sum times 16 over their number.
-    fn mean(self, averaging: Averaging) -> Measurement
-        requires { unsigned_abs self.load ≤ 128 * most }
-        ensures value { result ≡ mean_of self averaging }
-        ensures bound { unsigned_abs result.load ≤ 2 ^ 43 }
-    {
-        Measurement {
-            load: self.load * averaging.weight(),
-            mark: self.mark,
-        }
+// The measurement that so many readings make: their sum times 16 over their number.
+fn mean(sum: Reading, averaging: Averaging) -> Measurement
+    requires { unsigned_abs sum.load ≤ 128 * most }
+    ensures value { result ≡ mean_of sum averaging }
+    ensures bound { unsigned_abs result.load ≤ 2 ^ 43 }
+{
+    Measurement {
+        load: sum.load * averaging.weight(),
+        mark: sum.mark,
     }
 }
 
@@ -53,31 +44,31 @@ pub(crate) fn enough<B: GaugeBank>(bank: &B, address: Address, readings: u16) ->
     ensures { result ≡ enough_for address.number readings (B.shows bank.now address.number) }
 {
     if bank.waiting(address.number)? < readings {
-        return Err(Cause::TooFewReadings.at(address.number as usize));
+        return Err(Cause::TooFewReadings.at(address.index()));
     }
     Ok(())
 }
 
 // Takes so many readings and adds them.
-fn total<B: GaugeBank>(bank: &mut B, address: Address, readings: u8) -> Result<Sum, Fault>
+fn total<B: GaugeBank>(bank: &mut B, address: Address, readings: u8) -> Result<Reading, Fault>
     requires few { readings ≤ 16 }
     requires there { readings ≤ length (B.shows bank.old address.number).waiting }
     ensures answer { result ≡ Ok (sums readings (B.shows bank.old address.number).waiting) }
     ensures after { B.shows bank.new ≡ put_port (B.shows bank.old) address.number (dropped readings (B.shows bank.old address.number)) }
     ensures bound { IfOk result (λ s. unsigned_abs s.load ≤ 128 * most) }
 {
-    let mut sum = Sum {
+    let mut sum = Reading {
         load: 0,
         mark: Mark { overdriven: false },
     };
     for _ in 0..readings {
-        let reading = bank.take(address.number)?;
-        sum = sum.with(reading);
+        sum = with(sum, bank.take(address.number)?);
     }
     Ok(sum)
 }
 
 // Takes the readings of one measurement, or none where too few wait.
+// Kept: (d) bank and address in one struct: it holds a `&mut`, so each call would promise two things more, that it keeps its reference and its address.
 pub(crate) fn measure<B: GaugeBank>(
     bank: &mut B,
     address: Address,
@@ -90,5 +81,5 @@ pub(crate) fn measure<B: GaugeBank>(
     let readings = averaging.readings();
     enough(bank, address, u16::from(readings))?;
     let sum = total(bank, address, readings)?;
-    Ok(sum.mean(averaging))
+    Ok(mean(sum, averaging))
 }

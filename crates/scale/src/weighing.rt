@@ -1,12 +1,15 @@
 // What a load weighs under the settings: the shown value and its status.
 ghost use Rattle.std.specs.Prelude.{◌≡◌, ◌+◌, ◌^◌, ◌≤◌, ◌-ℤ◌, unsigned_abs};
-ghost use Rattle.scale.specs.Bounds.{Small};
+ghost use Rattle.bank.specs.Fitting.{mapped_ok};
+ghost use Rattle.scale.specs.Measuring.{put_port, measures, measured_port};
 ghost use Rattle.scale.specs.Weighing.{shown_as, of_both, weighed, tare_ticket};
 
 use crate::display::Display;
-use crate::measuring::Measurement;
-use crate::settings::Settings;
+use crate::measuring::measure;
+use crate::scale::Scale;
 use crate::state::Ticket;
+use bank::{Address, GaugeBank};
+use fault::Fault;
 use value::block::Measured;
 use value::layout::Layout;
 use value::output::OutputFormat;
@@ -14,6 +17,7 @@ use value::scaling::shown;
 use value::status::status;
 
 // The exact difference of two loads.
+// Kept: (c) a function: with `-` written out, the proof of what a load shows did not close.
 pub(crate) fn less(load: i64, other: i64) -> i64
     requires load { unsigned_abs load ≤ 2 ^ 60 }
     requires other { unsigned_abs other ≤ 2 ^ 60 }
@@ -35,67 +39,72 @@ impl Display {
     }
 }
 
-impl Settings {
-    // The value that a load shows in a format, under the nominal value, the step and the calibration of these settings.
+impl Scale {
+    // The value that a load shows in a format, under the nominal value, the step and the calibration in force.
     fn shown(&self, format: OutputFormat, load: i64) -> i128
-        requires { Small self.now }
-        ensures { result ≡ shown_as self.now format load }
+        ensures { result ≡ shown_as self.now.state.force format load }
     {
+        let force = &self.state.force;
         shown(
             load,
-            format.full_scale(self.nominal),
-            less(self.full, self.dead),
-            self.step.value(),
+            format.full_scale(force.nominal),
+            less(force.full, force.dead),
+            force.step.value(),
         )
     }
 
     // The net value: the gross value where there is no tare, so that one division does for both.
     fn net_value(&self, gross_load: i64, gross: i128) -> i128
-        requires small { Small self.now }
         requires load { unsigned_abs gross_load ≤ 2 ^ 59 }
-        requires value { gross ≡ shown_as self.now self.now.format gross_load }
-        ensures { result ≡ shown_as self.now self.now.format (gross_load -ℤ self.now.tare) }
+        requires value { gross ≡ shown_as self.now.state.force self.now.state.force.format gross_load }
+        ensures { result ≡ shown_as self.now.state.force self.now.state.force.format (gross_load -ℤ self.now.state.force.tare) }
     {
-        if self.tare == 0 {
+        let force = &self.state.force;
+        if force.tare == 0 {
             gross
         } else {
-            self.shown(self.format, less(gross_load, self.tare))
+            self.shown(force.format, less(gross_load, force.tare))
         }
     }
 
-    // Net or gross, as these settings have it, and the status of both.
-    pub(crate) fn weigh(&self, measurement: Measurement) -> Measured
-        requires small { Small self.now }
-        requires load { unsigned_abs measurement.load ≤ 2 ^ 43 }
-        ensures { result ≡ weighed self.now measurement }
+    // Measures once: net or gross, as the settings in force have it, and the status of both.
+    pub(crate) fn weigh<B: GaugeBank>(
+        &self,
+        bank: &mut B,
+        address: Address,
+    ) -> Result<Measured, Fault>
+        ensures answer { result ≡ mapped_ok (weighed self.now.state.force) (measures address.number self.now.state.force.averaging (B.shows bank.old address.number)) }
+        ensures after { B.shows bank.new ≡ put_port (B.shows bank.old) address.number (measured_port self.now.state.force.averaging (B.shows bank.old address.number)) }
     {
-        let gross_load = less(measurement.load, self.dead);
-        let gross = self.shown(self.format, gross_load);
+        let force = &self.state.force;
+        let measurement = measure(bank, address, force.averaging)?;
+        let gross_load = less(measurement.load, force.dead);
+        let gross = self.shown(force.format, gross_load);
         let net = self.net_value(gross_load, gross);
-        let net_fits = self.format.fits(self.nominal, net);
-        let gross_fits = self.format.fits(self.nominal, gross);
-        Measured {
-            value: self.display.of(net, gross),
+        let net_fits = force.format.fits(force.nominal, net);
+        let gross_fits = force.format.fits(force.nominal, gross);
+        Ok(Measured {
+            value: force.display.of(net, gross),
             status: status(net_fits, gross_fits, measurement.mark.overdriven),
-        }
+        })
     }
 
     // The tare, as a decimal value with CR LF.
     pub(crate) fn tare_ticket(&self) -> Ticket
-        requires { Small self.now }
-        ensures { result ≡ tare_ticket self.now }
+        ensures { result ≡ tare_ticket self.now.state.force }
     {
+        let force = &self.state.force;
         let format = OutputFormat {
             layout: Layout::Decimal,
             ended: true,
         };
         Ticket {
             measured: Measured {
-                value: self.shown(format, self.tare),
+                value: self.shown(format, force.tare),
                 status: 0,
             },
             format,
-            nominal: self.nominal,
+            nominal: force.nominal,
         }
     }
 }
