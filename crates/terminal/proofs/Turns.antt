@@ -1,59 +1,42 @@
 -- One turn of the loop over a byte run.
-use Rattle.std.proofs.Common.{◌≡◌, ℕ, suc, ◌+◌, ◌-◌, ◌<◌, ◌≤◌, Bool, true, false, cond, eqb, ltb, List, [], ◌∷◌, ◌++◌, length, take, drop, sym, refl, ap, ◌∙◌, subst, zero-add, add-one, one-add, arith}
+use Rattle.std.proofs.Common.{◌≡◌, ℕ, ◌+◌, ◌-◌, ◌<◌, ◌≤◌, List, [], ◌∷◌, ◌++◌, length, take, drop, sym, refl, ap, ◌∙◌, arith, rules}
 use borrow.Rule.Slice.PartMut.{put_mid}
 use Rattle.std.specs.List.{prefix_len}
 use Rattle.std.proofs.lemmas.List.{append_assoc, append-nil, drop_all, drop-drop, take_at, drop_at, length-drop, length-append, length-take-le, take-append-drop}
-use Rattle.std.proofs.lemmas.Bool.{le-ltb, lt-ltb, cond-false, cond-true, eq-eqb, ne_eqb}
 use Rattle.std.proofs.lemmas.List.Sums.{prefix_len-le-length}
 use Rattle.command.specs.Cuts.{plain}
 use Rattle.terminal.specs.declared.answers.Stop.{Stop}
-use Rattle.terminal.specs.declared.answers.Stop.TheVariants.{End, NoEnd, ShortBuffer}
 use Rattle.terminal.specs.declared.answers.Served.{Served}
-use Rattle.terminal.specs.declared.answers.Obeyed.{Obeyed}
-use Rattle.terminal.specs.declared.serving.Progress.{Progress}
+use Rattle.scale.specs.declared.hearing.Hearing.{Hearing}
 use Rattle.terminal.specs.Buses.{Bus, Word, after, reply, told, uttered, returned}
-use Rattle.terminal.specs.Serves.{headed, cut, taken, served, afters, answered, spent, why, report_of}
+use Rattle.terminal.specs.Serves.{cut, taken, served, afters, answered, spent, why, report_of}
 use Rattle.terminal.proofs.Rooms.{told_long, uttered_long}
-
-cut_head : (b : ℕ) (bs : List ℕ) (x : Bool) → (prefix_len plain bs < length bs → cut bs ≡ take (prefix_len plain bs) bs ∷ cut (drop (prefix_len plain bs + 1) bs))
-    → cond x (1 + prefix_len plain bs) 0 < suc (length bs)
-    → cond x (headed b (cut bs)) ([] ∷ cut bs) ≡ take (cond x (1 + prefix_len plain bs) 0) (b ∷ bs) ∷ cut (drop (cond x (1 + prefix_len plain bs) 0 + 1) (b ∷ bs))
-cut_head b bs true ih h =
-    let k : prefix_len plain bs < length bs = omega arith in
-    ap (headed b) (ih k) ∙ rw (one-add, add-one, add-one) refl
-cut_head b bs false ih h = refl
 
 -- the first command of a run, and what is left
 cut_more : (r : List ℕ) → prefix_len plain r < length r → cut r ≡ take (prefix_len plain r) r ∷ cut (drop (prefix_len plain r + 1) r)
 unfolding cut
-cut_more [] h = absurd (omega arith)
-cut_more (b ∷ bs) h = cut_head b bs (plain b) (cut_more bs) h
-
-no_head : (b : ℕ) (bs : List ℕ) (x : Bool) → (prefix_len plain bs ≡ length bs → cut bs ≡ []) → cond x (1 + prefix_len plain bs) 0 ≡ suc (length bs) → cond x (headed b (cut bs)) ([] ∷ cut bs) ≡ []
-no_head b bs true ih h = let k : prefix_len plain bs ≡ length bs = omega arith in ap (headed b) (ih k)
-no_head b bs false ih h = absurd (omega arith)
+cut_more [] h = search rules
+cut_more (b ∷ bs) h = search (rules, cut_more bs)
 
 cut_none : (r : List ℕ) → prefix_len plain r ≡ length r → cut r ≡ []
 unfolding cut
 cut_none [] h = refl
-cut_none (b ∷ bs) h = no_head b bs (plain b) (cut_none bs) h
+cut_none (b ∷ bs) h = search (rules, cut_none bs)
 
 -- what is obeyed of the rest r of a run
 module _ (room : ℕ) (b : Bus) (r : List ℕ) where
   served_more : (t : List ℕ) (n : ℕ) → prefix_len plain r < length r → t ≡ take (prefix_len plain r) r → n ≡ prefix_len plain r + 1 → 1088 ≤ room
       → served room b r ≡ t ∷ served (room - length (reply b t).says) (after b t) (drop n r)
   unfolding taken
-  served_more t n h p q k =
-      ap (taken room b) (cut_more r h) ∙ ap (λ z. taken room b (z ∷ cut (drop (prefix_len plain r + 1) r))) (sym p) ∙ ap (λ z. taken room b (t ∷ cut (drop z r))) (sym q)
-      ∙ cond-false (ltb room 1088) [] (t ∷ taken (room - length (reply b t).says) (after b t) (cut (drop n r))) (le-ltb room 1088 k)
+  served_more t n h p q k = let e = cut_more r h in search rules
 
   pub served_short : prefix_len plain r < length r → room < 1088 → served room b r ≡ []
   unfolding taken
-  served_short h k = ap (taken room b) (cut_more r h) ∙ cond-true (ltb room 1088) [] _ (lt-ltb room 1088 k)
+  served_short h k = let e = cut_more r h in search rules
 
   pub served_none : prefix_len plain r ≡ length r → served room b r ≡ []
   unfolding taken
-  served_none h = ap (taken room b) (cut_none r h)
+  served_none h = search (rules, cut_none)
 
 -- where the loop over a run stands: what is left gives what is to come
 pub record Going (b0 : Bus) (run a0 : List ℕ) (b : Bus) (used : ℕ) (a : List ℕ) (written : ℕ) : Type 0 where
@@ -65,19 +48,6 @@ pub record Going (b0 : Bus) (run a0 : List ℕ) (b : Bus) (used : ℕ) (a : List
   pub says : take written a ++ answered b (served (length a - written) b (drop used run)) ≡ answered b0 (served (length a0) b0 run)
   pub rest : drop written a ≡ drop written a0
 
-pub going_none : (b0 : Bus) (run a0 : List ℕ) → Going b0 run a0 b0 0 a0 0
-going_none b0 run a0 =
-    let e : length a0 - 0 ≡ length a0 = omega arith in
-    record {
-      within = omega arith;
-      fits = omega arith;
-      long = refl;
-      state = ap (λ n. afters b0 (served n b0 run)) e;
-      spends = rw zero-add (ap (λ n. spent (served n b0 run)) e);
-      says = ap (λ n. answered b0 (served n b0 run)) e;
-      rest = refl;
-    }
-
 -- nothing more is obeyed
 pub going_end : (b0 : Bus) (run a0 : List ℕ) (b : Bus) (used : ℕ) (a : List ℕ) (written : ℕ) → Going b0 run a0 b used a written
     → served (length a - written) b (drop used run) ≡ [] → (y : Stop) → y ≡ why (drop used run)
@@ -85,33 +55,13 @@ pub going_end : (b0 : Bus) (run a0 : List ℕ) (b : Bus) (used : ℕ) (a : List 
     × (◌≡◌ {A = Served} (record { used = used; written = written; stopped = y }) (report_of b0 run (served (length a0) b0 run)))
     × (a ≡ answered b0 (served (length a0) b0 run) ++ drop written a0) × (written ≤ length a0)
 going_end b0 run a0 b used a written g e y yq =
-    let all = served (length a0) b0 run in
-    let w : take written a ≡ answered b0 all = sym (append-nil (take written a)) ∙ sym (ap (λ z. take written a ++ answered b z) e) ∙ g.says in
-    let u : used ≡ spent all = omega (arith, ap spent e, g.spends) in
-    let n : written ≡ length (answered b0 all) = sym (length-take-le written a g.fits) ∙ ap length w in
-    let v = yq ∙ ap (λ z. why (drop z run)) u in (
-      sym (ap (afters b) e) ∙ g.state,
-      (λ i. record { used = u i; written = n i; stopped = v i }),
-      sym (take-append-drop written a) ∙ ap (λ z. z ++ drop written a) w ∙ ap (λ z. answered b0 all ++ z) g.rest,
-      omega (arith, g.fits, g.long),
-    )
-
--- why, at each exit
-pub why_end : (r : List ℕ) → length r ≡ 0 → End ≡ why r
-why_end [] h = refl
-why_end (b ∷ bs) h = absurd (omega arith)
-
-pub why_open : (r : List ℕ) → 0 < length r → prefix_len plain r ≡ length r → NoEnd ≡ why r
-why_open [] h e = absurd (omega arith)
-why_open (b ∷ bs) h e = sym (cond-true (eqb (prefix_len plain (b ∷ bs)) (length (b ∷ bs))) NoEnd ShortBuffer (eq-eqb _ _ e))
-
-pub why_short : (r : List ℕ) → prefix_len plain r < length r → ShortBuffer ≡ why r
-why_short [] h = absurd (omega arith)
-why_short (b ∷ bs) h = sym (cond-false (eqb (prefix_len plain (b ∷ bs)) (length (b ∷ bs))) NoEnd ShortBuffer (ne_eqb _ _ (λ e. omega arith)))
+    let w = length-take-le written a g.fits in
+    let t = take-append-drop written a in
+    search rules
 
 -- one command more: the buffer a with out written over what lay past its first bytes
 pub going_more : (b0 : Bus) (run a0 : List ℕ) (b : Bus) (used : ℕ) (a : List ℕ) (written : ℕ) → Going b0 run a0 b used a written
-    → (b' : Bus) (r part t out : List ℕ) (n : ℕ) (o : Obeyed)
+    → (b' : Bus) (r part t out : List ℕ) (n : ℕ) (o : Hearing)
     → r ≡ drop used run → part ≡ drop written a
     → prefix_len plain r < length r → t ≡ take (prefix_len plain r) r → n ≡ prefix_len plain r + 1 → 1088 ≤ length a - written
     → b' ≡ told (length part) b t → o ≡ returned (uttered (length part) b t) → out ≡ (uttered (length part) b t).says ++ drop o.written part → o.written ≤ length part
@@ -124,7 +74,7 @@ going_more b0 run a0 b used a written g b' r part t out n o rq pq lt tq nq room 
     let u = (reply b t).says in
     let ul : (uttered (length part) b t).says ≡ u = ap (λ (z : Word). z.says) (uttered_long (length part) b t pr) in
     let bh : b' ≡ after b t = bq ∙ told_long (length part) b t pr in
-    let wu : w ≡ length u = ap (λ (z : Obeyed). z.written) vq ∙ ap length ul in
+    let wu : w ≡ length u = ap (λ (z : Hearing). z.written) vq ∙ ap length ul in
     let tl : length t ≡ prefix_len plain r = ap length tq ∙ length-take-le (prefix_len plain r) r (prefix_len-le-length plain r) in
     let post : drop (length a - written) (drop written a) ≡ [] = drop_all (length a - written) (drop written a) (omega (arith, length-drop written a)) in
     let front = take written a ++ u in
@@ -157,7 +107,3 @@ going_more b0 run a0 b used a written g b' r part t out n o rq pq lt tq nq room 
           ap (drop (written + w)) aq ∙ drop_at front (drop w part) (written + w) fl
           ∙ ap (drop w) (pq ∙ g.rest) ∙ drop-drop w written a0;
     }
-
--- the same, by how far serving has come
-pub going_past : (b0 : Bus) (run a0 : List ℕ) (b : Bus) (used : ℕ) (a : List ℕ) (written : ℕ) (come : Progress) → come ≡ record { used = used; written = written } → Going b0 run a0 b used a written → Going b0 run a0 b come.used a come.written
-going_past b0 run a0 b used a written come e g = subst (λ (z : Progress). Going b0 run a0 b z.used a z.written) (sym e) g

@@ -11,7 +11,7 @@ use Rattle.scale.specs.declared.scale.Scale.{Scale}
 use Rattle.scale.specs.declared.state.State.{State}
 use Rattle.scale.specs.Hearing.{Outcome, hears}
 use Rattle.scale.specs.States.{fresh}
-use Rattle.terminal.specs.declared.answers.Obeyed.{Obeyed}
+use Rattle.scale.specs.declared.hearing.Hearing.{Hearing}
 use Rattle.terminal.specs.declared.terminal.Terminal.{Terminal}
 use Rattle.terminal.specs.Ears.{Ear, nobody, only, everyone, ear_of, turned, listens, reach}
 
@@ -91,7 +91,7 @@ abbrev pub uttered : ℕ → Bus → List ℕ → Word
 uttered room b t = cond (nat_lt room 1088) (record { says = []; fault = Some (refusal ShortBuffer room) }) (reply b t)
 
 -- what obeying returns
-abbrev pub returned : Word → Obeyed
+abbrev pub returned : Word → Hearing
 returned w = record { written = length w.says; fault = w.fault }
 
 -- ---- what a terminal means

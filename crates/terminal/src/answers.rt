@@ -2,17 +2,11 @@
 ghost use Rattle.std.specs.Prelude.{◌≡◌};
 ghost use Rattle.terminal.specs.Stops.{stop_number};
 
-use fault::Fault;
+// How many bytes one command was answered by, and the fault of the selected scale that refused it.
+pub use scale::Hearing as Obeyed;
 
 // Every answer has room in so many bytes; a buffer with less is refused.
-pub const ROOM: usize = 1088;
-
-// How many bytes one command was answered by, and the fault of the selected scale that refused it.
-#[derive(Clone, Copy)]
-pub struct Obeyed {
-    pub written: usize,
-    pub fault: Option<Fault>,
-}
+pub use scale::ROOM;
 
 // Why serving stopped: at the end of the run, for want of an end character, or for want of room.
 #[derive(Clone, Copy)]

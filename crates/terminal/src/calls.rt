@@ -1,4 +1,7 @@
 // Calls of a terminal, and what each returned and wrote.
+ghost use Rattle.std.specs.Prelude.{◌≡◌};
+ghost use Rattle.terminal.specs.Calls.{room_of, written_of};
+
 use crate::answers::{Obeyed, Served};
 use crate::terminal::Terminal;
 
@@ -9,11 +12,34 @@ pub enum Call<'a> {
     Serve { bytes: &'a [u8], room: usize },
 }
 
+impl Call<'_> {
+    // The room that it has for answers.
+    pub(crate) fn room(&self) -> usize
+        ensures { result ≡ room_of self.now }
+    {
+        match self {
+            Call::Obey { room, .. } | Call::Serve { room, .. } => *room,
+        }
+    }
+}
+
 // What a call returned.
 #[derive(Clone, Copy)]
 pub enum Outcome {
     Command(Obeyed),
     Run(Served),
+}
+
+impl Outcome {
+    // How many bytes it wrote.
+    pub(crate) fn written(self) -> usize
+        ensures { result ≡ written_of self }
+    {
+        match self {
+            Outcome::Command(obeyed) => obeyed.written,
+            Outcome::Run(served) => served.written,
+        }
+    }
 }
 
 // What a call returned, and the bytes that it wrote.

@@ -2,9 +2,9 @@
 ghost use Rattle.std.specs.Prelude.{◌≡◌};
 ghost use Rattle.terminal.specs.Ears.{ear_of, called, turned};
 
+use bank::Address;
 use command::Heard;
 use fault::Fault;
-use scale::Address;
 
 // The pair of digits that selects every scale.
 const BROADCAST: u8 = 98;
@@ -24,13 +24,8 @@ impl Listening {
     {
         match Address::new(pair) {
             Some(address) => Listening::One(address),
-            None => {
-                if pair == BROADCAST {
-                    Listening::All
-                } else {
-                    Listening::Nobody
-                }
-            }
+            None if pair == BROADCAST => Listening::All,
+            None => Listening::Nobody,
         }
     }
 

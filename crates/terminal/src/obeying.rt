@@ -1,41 +1,21 @@
 // Obeying one command.
-ghost use Rattle.std.specs.Prelude.{◌≡◌, ℕ, ◌≤◌, ◌++◌, length, drop, if◌then◌else◌, Some, None, nat_eq};
-ghost use Rattle.scale.specs.declared.modes.Mode.TheVariants.{Broadcast};
-ghost use Rattle.scale.specs.States.{fresh};
+ghost use Rattle.std.specs.Prelude.{◌≡◌, ◌≤◌, ◌++◌, length, drop, if◌then◌else◌, None, nat_eq};
 ghost use Rattle.terminal.specs.Ears.{everyone, listens};
-ghost use Rattle.terminal.specs.Buses.{present, lets, meeting, hearing, passed, silence, spoken, heeded, worded, word_of, told, uttered, returned, state_at, silent, bus};
+ghost use Rattle.terminal.specs.Buses.{present, lets, meeting, hearing, passed, silence, spoken, heeded, worded, word_of, told, uttered, returned, silent, bus};
 
 use crate::answers::{Obeyed, ROOM};
 use crate::listening::Listening;
-use crate::terminal::Terminal;
-use bank::GaugeBank;
+use crate::terminal::{SCALES, Terminal};
+use bank::{Address, GaugeBank};
 use command::{Heard, read};
 use fault::{Cause, Fault};
-use scale::{Address, Mode, Scale};
-
-// How many scales there are.
-const SCALES: u8 = 32;
+use scale::{Mode, Scale};
 
 // Nothing is answered.
 const SILENCE: Obeyed = Obeyed {
     written: 0,
     fault: None,
 };
-
-// 32 new scales.
-fn new_scales() -> [Scale; 32]
-    ensures { (a : ℕ) → state_at result a ≡ fresh }
-{
-    let scale = Scale::new();
-    [scale; 32]
-}
-
-// The place of a scale among the 32: its address.
-fn seat(address: Address) -> usize
-    ensures { result ≡ address.number }
-{
-    address.number as usize
-}
 
 impl<B: GaugeBank> Terminal<B> {
     // A terminal over a bank, with 32 new scales; nobody listens.
@@ -44,7 +24,7 @@ impl<B: GaugeBank> Terminal<B> {
     {
         Terminal {
             bank,
-            scales: new_scales(),
+            scales: [Scale::new(); SCALES],
             listening: Listening::Nobody,
         }
     }
@@ -53,10 +33,9 @@ impl<B: GaugeBank> Terminal<B> {
     fn is_present(&self, address: Address) -> bool
         ensures { result ≡ present (B.shows self.now.bank address.number) }
     {
-        match self.bank.gauges(address.number) {
-            Ok(gauges) => gauges > 0,
-            Err(_) => false,
-        }
+        self.bank
+            .gauges(address.number)
+            .is_ok_and(|gauges| gauges > 0)
     }
 
     // The scale at an address hears a command in a mode, if it is present, and writes its answer to the front of `out`.
@@ -65,65 +44,35 @@ impl<B: GaugeBank> Terminal<B> {
         mode: Mode,
         address: Address,
         heard: Result<Heard, Fault>,
-        out: &mut [u8],
+        out: &mut [u8; ROOM],
     ) -> Obeyed
-        requires { 1088 ≤ length out.old }
         ensures state { bus B.shows self.new ≡ hearing (λ x. (if nat_eq x address.number then lets mode (present (B.shows self.old.bank x)) else None)) (bus B.shows self.old) heard }
         ensures value { result ≡ returned (word_of (meeting (lets mode (present (B.shows self.old.bank address.number))) (bus B.shows self.old) heard address.number)) }
         ensures buffer { out.new ≡ (meeting (lets mode (present (B.shows self.old.bank address.number))) (bus B.shows self.old) heard address.number).says ++ drop result.written out.old }
-        ensures within { result.written ≤ 1088 }
     {
         if !self.is_present(address) {
             return SILENCE;
         }
-        let place = seat(address);
-        let hearing = self.scales[place].hear(mode, address, heard, &mut self.bank, out);
-        Obeyed {
-            written: hearing.written,
-            fault: hearing.fault,
-        }
+        self.scales[address.index()].hear(mode, address, heard, &mut self.bank, out)
     }
 
-    // The scale with this number hears a broadcast, if it is present.
-    fn tell_number(&mut self, number: u8, heard: Result<Heard, Fault>, unsaid: &mut [u8])
-        requires { (1088 ≤ length unsaid.old) × (number ≤ 31) }
-        ensures { bus B.shows self.new ≡ hearing (λ x. (if nat_eq x number then lets Broadcast (present (B.shows self.old.bank x)) else None)) (bus B.shows self.old) heard }
-    {
-        match Address::new(number) {
-            Some(address) => {
-                let _ = self.tell(Mode::Broadcast, address, heard, unsaid);
-            }
-            None => {}
-        }
-    }
-
-    // Every scale that is present hears a broadcast; what one would say is written over.
-    fn tell_all(&mut self, heard: Result<Heard, Fault>, unsaid: &mut [u8])
-        requires { 1088 ≤ length unsaid.old }
-        ensures { bus B.shows self.new ≡ hearing (λ x. listens everyone x (present (B.shows self.old.bank x))) (bus B.shows self.old) heard }
-    {
-        for number in 0..SCALES {
-            self.tell_number(number, heard, unsaid);
-        }
-    }
-
-    // A broadcast: all hear it, and nobody answers.
+    // A broadcast: every scale that is present hears it, and nobody answers; what one would say is written over.
     fn broadcast(&mut self, heard: Result<Heard, Fault>) -> Obeyed
         ensures state { bus B.shows self.new ≡ hearing (λ x. listens everyone x (present (B.shows self.old.bank x))) (bus B.shows self.old) heard }
         ensures value { result ≡ returned silence }
     {
-        let mut unsaid = [0u8; ROOM];
-        self.tell_all(heard, &mut unsaid);
+        let mut unsaid = [0; ROOM];
+        for number in 0..SCALES as u8 {
+            self.tell(Mode::Broadcast, Address { number }, heard, &mut unsaid);
+        }
         SILENCE
     }
 
     // Passes a command on to those who listen, and writes what the selected scale answers.
-    fn pass_on(&mut self, heard: Result<Heard, Fault>, answer: &mut [u8]) -> Obeyed
-        requires { 1088 ≤ length answer.old }
+    fn pass_on(&mut self, heard: Result<Heard, Fault>, answer: &mut [u8; ROOM]) -> Obeyed
         ensures state { bus B.shows self.new ≡ passed (bus B.shows self.old) heard }
         ensures value { result ≡ returned (spoken (bus B.shows self.old) heard) }
         ensures buffer { answer.new ≡ (spoken (bus B.shows self.old) heard).says ++ drop result.written answer.old }
-        ensures within { result.written ≤ 1088 }
     {
         match self.listening {
             Listening::Nobody => SILENCE,
@@ -133,12 +82,10 @@ impl<B: GaugeBank> Terminal<B> {
     }
 
     // One command as it was read: a select turns who listens first, and a blank command does nothing.
-    fn heed(&mut self, heard: Result<Heard, Fault>, answer: &mut [u8]) -> Obeyed
-        requires { 1088 ≤ length answer.old }
+    fn heed(&mut self, heard: Result<Heard, Fault>, answer: &mut [u8; ROOM]) -> Obeyed
         ensures state { bus B.shows self.new ≡ heeded (bus B.shows self.old) heard }
         ensures value { result ≡ returned (worded (bus B.shows self.old) heard) }
         ensures buffer { answer.new ≡ (worded (bus B.shows self.old) heard).says ++ drop result.written answer.old }
-        ensures within { result.written ≤ 1088 }
     {
         self.listening = self.listening.after(heard);
         match heard {
@@ -154,12 +101,12 @@ impl<B: GaugeBank> Terminal<B> {
         ensures buffer { answer.new ≡ (uttered (length answer.old) (bus B.shows self.old) command.now).says ++ drop result.written answer.old }
         ensures within { result.written ≤ length answer.old }
     {
-        if answer.len() < ROOM {
+        let Some(answer) = answer.first_chunk_mut::<ROOM>() else {
             return Obeyed {
                 written: 0,
                 fault: Some(Cause::ShortBuffer.at(answer.len())),
             };
-        }
+        };
         self.heed(read(command), answer)
     }
 }

@@ -1,7 +1,7 @@
 // A run: a new terminal is given a list of calls.
-ghost use Rattle.std.specs.Prelude.{◌≡◌, ◌<◌, map, length, IfOk, OnErr};
+ghost use Rattle.std.specs.Prelude.{◌≡◌, ◌<◌, ◌++◌, map, length, drop, IfOk, OnErr};
 ghost use Rattle.terminal.specs.Buses.{bus};
-ghost use Rattle.terminal.specs.Calls.{obeying, serving, ask_of, next, shown, report};
+ghost use Rattle.terminal.specs.Calls.{ask_of, ask_in, outcome_of, left, spoke, written_of, next, shown, report};
 ghost use Rattle.terminal.specs.Laws.{Came};
 
 use crate::calls::{Call, Outcome, Ran, Reply};
@@ -10,45 +10,26 @@ use bank::GaugeBank;
 use std::alloc::{AllocError, Global};
 
 impl<B: GaugeBank> Terminal<B> {
-    // Obeys one command with so much room.
-    fn reply_to_command(
-        &mut self,
-        heap: Global,
-        command: &[u8],
-        room: usize,
-    ) -> Result<Reply, AllocError>
-        ensures { IfOk result (λ y. (bus B.shows self.new ≡ next (bus B.shows self.old) (obeying command.now room)) × (shown y ≡ report (bus B.shows self.old) (obeying command.now room))) }
+    // Makes one call with a buffer for its answers.
+    fn make(&mut self, call: &Call<'_>, answers: &mut [u8]) -> Outcome
+        ensures state { bus B.shows self.new ≡ left (bus B.shows self.old) (ask_in (length answers.old) call.now) }
+        ensures value { result ≡ outcome_of (bus B.shows self.old) (ask_in (length answers.old) call.now) }
+        ensures buffer { answers.new ≡ spoke (bus B.shows self.old) (ask_in (length answers.old) call.now) ++ drop (written_of result) answers.old }
     {
-        let mut bytes = vec![in heap; 0u8; room]?;
-        let obeyed = self.obey(command, bytes.as_mut_slice());
-        bytes.truncate(obeyed.written);
-        Ok(Reply {
-            outcome: Outcome::Command(obeyed),
-            bytes,
-        })
-    }
-
-    // Serves a byte run with so much room.
-    fn reply_to_run(&mut self, heap: Global, run: &[u8], room: usize) -> Result<Reply, AllocError>
-        ensures { IfOk result (λ y. (bus B.shows self.new ≡ next (bus B.shows self.old) (serving run.now room)) × (shown y ≡ report (bus B.shows self.old) (serving run.now room))) }
-    {
-        let mut bytes = vec![in heap; 0u8; room]?;
-        let served = self.serve(run, bytes.as_mut_slice());
-        bytes.truncate(served.written);
-        Ok(Reply {
-            outcome: Outcome::Run(served),
-            bytes,
-        })
+        match call {
+            Call::Obey { bytes, .. } => Outcome::Command(self.obey(bytes, answers)),
+            Call::Serve { bytes, .. } => Outcome::Run(self.serve(bytes, answers)),
+        }
     }
 
     // Makes one call, and replies what it returned and wrote.
     fn reply(&mut self, heap: Global, call: &Call<'_>) -> Result<Reply, AllocError>
         ensures { IfOk result (λ y. (bus B.shows self.new ≡ next (bus B.shows self.old) (ask_of call.now)) × (shown y ≡ report (bus B.shows self.old) (ask_of call.now))) }
     {
-        match call {
-            Call::Obey { bytes, room } => self.reply_to_command(heap, bytes, *room),
-            Call::Serve { bytes, room } => self.reply_to_run(heap, bytes, *room),
-        }
+        let mut bytes = vec![in heap; 0u8; call.room()]?;
+        let outcome = self.make(call, bytes.as_mut_slice());
+        bytes.truncate(outcome.written());
+        Ok(Reply { outcome, bytes })
     }
 }
 
@@ -64,8 +45,7 @@ pub fn run<B: GaugeBank + Drop>(
     let mut terminal = Terminal::new(bank);
     let mut replies = Vec::new(heap);
     for call in calls {
-        let reply = terminal.reply(heap, call)?;
-        replies.push(reply)?;
+        replies.push(terminal.reply(heap, call)?)?;
     }
     Ok(Ran { terminal, replies })
 }

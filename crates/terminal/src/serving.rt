@@ -1,33 +1,12 @@
 // Serving a byte run.
-ghost use Rattle.std.specs.Prelude.{◌≡◌, ◌+◌, ◌^◌, ◌<◌, ◌≤◌, ◌++◌, length, drop};
+ghost use Rattle.std.specs.Prelude.{◌≡◌, ◌≤◌, ◌++◌, length, drop};
 ghost use Rattle.terminal.specs.Buses.{bus};
 ghost use Rattle.terminal.specs.Serves.{due, due_of, served, afters, answered, report_of, Serves};
 
-use crate::answers::{Obeyed, ROOM, Served, Stop};
+use crate::answers::{ROOM, Served, Stop};
 use crate::terminal::Terminal;
 use bank::GaugeBank;
 use command::split;
-
-// How far serving has come: the bytes of the run used, and the bytes of answers written.
-#[derive(Clone, Copy)]
-struct Progress {
-    used: usize,
-    written: usize,
-}
-
-impl Progress {
-    // One command further, whatever its answer: it used so many bytes of the run with its end character, and was obeyed so.
-    fn past(self, used: usize, obeyed: Obeyed) -> Progress
-        requires used { self.used + used < 2 ^ 64 }
-        requires written { self.written + obeyed.written < 2 ^ 64 }
-        ensures { result ≡ record { used = self.used + used; written = self.written + obeyed.written } }
-    {
-        Progress {
-            used: self.used + used,
-            written: self.written + obeyed.written,
-        }
-    }
-}
 
 // What serving does next: the next command of what is left of a run and the bytes that it uses, or why serving stops. It looks for the run's end first, then for an end character, then at the room for answers.
 fn next_command(rest: &[u8], room: usize) -> Result<(&[u8], usize), Stop>
@@ -36,16 +15,11 @@ fn next_command(rest: &[u8], room: usize) -> Result<(&[u8], usize), Stop>
     if rest.is_empty() {
         return Err(Stop::End);
     }
-    match split(rest) {
-        Err(_) => Err(Stop::NoEnd),
-        Ok((command, used)) => {
-            if room < ROOM {
-                Err(Stop::ShortBuffer)
-            } else {
-                Ok((command, used))
-            }
-        }
+    let (command, used) = split(rest).map_err(|_| Stop::NoEnd)?;
+    if room < ROOM {
+        return Err(Stop::ShortBuffer);
     }
+    Ok((command, used))
 }
 
 impl<B: GaugeBank> Terminal<B> {
@@ -57,12 +31,9 @@ impl<B: GaugeBank> Terminal<B> {
         ensures within { result.written ≤ length answers.old }
         ensures law { Serves (length answers.old) (bus B.shows self.old) run.now (served (length answers.old) (bus B.shows self.old) run.now) result }
     {
-        let mut come = Progress {
-            used: 0,
-            written: 0,
-        };
+        let mut used = 0;
+        let mut written = 0;
         loop {
-            let Progress { used, written } = come;
             match next_command(&run[used..], answers.len() - written) {
                 Err(stopped) => {
                     return Served {
@@ -73,7 +44,8 @@ impl<B: GaugeBank> Terminal<B> {
                 }
                 Ok((command, n)) => {
                     let obeyed = self.obey(command, &mut answers[written..]);
-                    come = come.past(n, obeyed);
+                    used += n;
+                    written += obeyed.written;
                 }
             }
         }

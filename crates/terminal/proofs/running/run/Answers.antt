@@ -13,19 +13,16 @@ loop-call-preserved g c =
     let i = c.loop-call.call-index in
     let within : i < length (map ask_of cs) = simp length-map c.loop-call-test.true in
     calls_more (map ask_of cs) i (bus g.B.GaugeBank.shows c.loop-call.terminal) (bus g.B.GaugeBank.shows c.reply.new.self) (bus g.B.GaugeBank.shows c.new-terminal.result)
-    (map shown (vec_items c.loop-call.replies)) (map shown (vec_items c.push.new.self)) _ (shown c.in_ok-reply.reply)
+    (map shown (vec_items c.loop-call.replies)) (map shown (vec_items c.push.new.self)) _ (shown c.in_ok-reply.field-0)
     within (obeying [] 0) (get_or-map ask_of cs i _ _ c.loop-call-test.true) h.0 h.1
-    (ap (map shown) (pushed (c.in_ok-reply.reply ∷ []) refl c.in_ok-push.was c.push.ensures.items) ∙ map_push shown (vec_items c.loop-call.replies) c.in_ok-reply.reply)
+    (ap (map shown) (pushed (c.in_ok-reply.field-0 ∷ []) refl c.in_ok-push.was c.push.ensures.items) ∙ map_push shown (vec_items c.loop-call.replies) c.in_ok-reply.field-0)
     c.loop-call.invariant.0 c.loop-call.invariant.1
 
-pub returns : goal.returns
-returns g c =
+pub returns-clause-laws : goal.returns-clause-laws
+returns-clause-laws g c =
     let cs = c.args.calls.now in
     let past : length (map ask_of cs) ≤ c.loop-call.call-index = simp length-map c.loop-call-test.false in
     let all = calls_all (map ask_of cs) c.loop-call.call-index (bus g.B.GaugeBank.shows c.loop-call.terminal) (bus g.B.GaugeBank.shows c.new-terminal.result) (map shown (vec_items c.loop-call.replies)) past c.loop-call.invariant.0 c.loop-call.invariant.1 in
     let e = c.new-terminal.ensures in
-    record {
-      refusal = tt;
-      laws = came (g.B.GaugeBank.shows c.args.bank) (map ask_of cs) (bus g.B.GaugeBank.shows c.loop-call.terminal) (map shown (vec_items c.loop-call.replies))
-          (all.0 ∙ ap (λ z. closing z (map ask_of cs)) e) (all.1 ∙ ap (λ z. reports z (map ask_of cs)) e);
-    }
+    came (g.B.GaugeBank.shows c.args.bank) (map ask_of cs) (bus g.B.GaugeBank.shows c.loop-call.terminal) (map shown (vec_items c.loop-call.replies))
+    (all.0 ∙ ap (λ z. closing z (map ask_of cs)) e) (all.1 ∙ ap (λ z. reports z (map ask_of cs)) e)

@@ -1,4 +1,3 @@
-use Rattle.std.proofs.Common.{length, arith}
 use Rattle.terminal.specs.Buses.{bus}
 use Rattle.terminal.proofs.Rooms.{obeyed}
 use Rattle.terminal.proofs.terminal.Terminal.obey.Goals as goal
@@ -6,6 +5,7 @@ use Rattle.terminal.proofs.terminal.Terminal.obey.Goals as goal
 pub returns : goal.returns
 returns g c =
     let h = c.heed.ensures in
-    let all = obeyed (length c.args.answer.now) (bus g.B.GaugeBank.shows c.args.self.now) _ c.args.command.now c.read.result c.heed.result c.heed.result.written c.args.answer.now c.heed.new.answer
-    c.if-answer-lt-ROOM.false c.read.ensures.value h.state h.value h.buffer in
-    record { state = all.0; value = all.1; buffer = all.2; within = omega (arith, h.within, c.if-answer-lt-ROOM.false) }
+    let k = c.in-Some.ensures.cases in
+    let all = obeyed (bus g.B.GaugeBank.shows c.args.self.now) _ c.args.command.now c.read.result c.heed.result c.args.answer.now c.in-Some.answer.now c.heed.new.answer
+    k.enough k.same c.read.ensures.value h.state h.value h.buffer in
+    record { state = all.0; value = all.1; buffer = all.2; within = all.3 }

@@ -1,7 +1,7 @@
 use Rattle.std.proofs.Common.{◌≡◌}
 use Rattle.terminal.specs.Buses.{bus}
 use Rattle.terminal.proofs.Telling.{swept}
-use Rattle.terminal.proofs.terminal.Terminal.tell_all.Given as goal
+use Rattle.terminal.proofs.terminal.Terminal.broadcast.Given as goal
 
 -- the scales before the next have heard the broadcast
 abbrev pub invariant-loop-number : goal.invariant-loop-number
