@@ -1,6 +1,7 @@
 -- What is written for bytes is read as those bytes.
-use Rattle.std.proofs.Common.{◌≡◌, ℕ, ◌+◌, ◌*◌, ◌/◌, ◌%◌, ◌<◌, ◌≤◌, true, false, eqb, ltb, List, [], ◌∷◌, ◌++◌, Some, None, Option, sym, refl, ap, ◌∙◌, arith}
+use Rattle.std.proofs.Common.{◌≡◌, ℕ, ◌+◌, ◌*◌, ◌/◌, ◌%◌, ◌<◌, ◌≤◌, true, false, eqb, ltb, List, [], ◌∷◌, ◌++◌, Some, Option, sym, refl, ap, ◌∙◌, arith}
 use Rattle.std.specs.Option.{option_map}
+use Rattle.std.proofs.lemmas.Iterator.Adapters.{option_map_id}
 use Rattle.std.proofs.lemmas.Bool.{cond_both, cond-true, cond-false, eqb-true, ltb-true, ltb-false}
 use Rattle.std.proofs.lemmas.Bool.Decides.{nat_tests}
 use Rattle.halls.specs.declared.spelling.Spelling.{Spelling}
@@ -11,10 +12,6 @@ use Rattle.halls.specs.Escapes.{printable, glyph_of, spelled, text_of, escaped, 
 -- a byte in front of a result
 abbrev fronted : ℕ → Option (List ℕ) → Option (List ℕ)
 fronted b o = option_map (λ xs. b ∷ xs) o
-
-same : (o : Option (List ℕ)) → option_map (λ xs. xs) o ≡ o
-same None = refl
-same (Some xs) = refl
 
 nibble_digit : (n : ℕ) → n < 10 → nibble_of (48 + n) ≡ Some n
 nibble_digit n h = grind (arith, nat_tests)
@@ -40,7 +37,7 @@ module _ (b : ℕ) (small : b < 256) (t : List ℕ) where
       let first = ap (λ o. option_map (λ xs. xs) (option_map (λ xs. xs) (onward (option_map (λ n. wants (Low n)) o) (λ v. decoded v (glyph_of l ∷ t))))) (nibble_back h (omega arith)) in
       let second = ap (λ o. onward (option_map (λ n. gives (16 * h + n)) o) (λ v. decoded v t)) (nibble_back l (omega arith)) in
       let value : 16 * h + l ≡ b = omega arith in
-      first ∙ same _ ∙ same _ ∙ same _ ∙ second ∙ ap (λ n. fronted n (decoded Any t)) value
+      first ∙ option_map_id _ ∙ option_map_id _ ∙ option_map_id _ ∙ second ∙ ap (λ n. fronted n (decoded Any t)) value
 
   itself_back : eqb b 92 ≡ false → printable b ≡ true → Back (Itself b)
   itself_back other shown = ap (λ o. onward o (λ v. decoded v t)) (cond-false _ _ _ other ∙ cond-true _ _ _ shown)
@@ -50,9 +47,9 @@ module _ (b : ℕ) (small : b < 256) (t : List ℕ) where
 
   back : Back (spelled b)
   back =
-      cond_both (eqb b 92) _ _ Back (λ e. letter_back 92 92 e (same _))
-      (λ other. cond_both (eqb b 13) _ _ Back (λ e. letter_back 114 13 e (same _))
-      (λ _. cond_both (eqb b 10) _ _ Back (λ e. letter_back 110 10 e (same _))
+      cond_both (eqb b 92) _ _ Back (λ e. letter_back 92 92 e (option_map_id _))
+      (λ other. cond_both (eqb b 13) _ _ Back (λ e. letter_back 114 13 e (option_map_id _))
+      (λ _. cond_both (eqb b 10) _ _ Back (λ e. letter_back 110 10 e (option_map_id _))
       (λ _. cond_both (printable b) _ _ Back (itself_back other) (λ _. digits_back))))
 
 pub read_back : ReadsBack

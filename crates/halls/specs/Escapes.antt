@@ -1,6 +1,6 @@
 -- Bytes as printable text, in both directions.
 use Rattle.std.specs.Prelude.{◌≡◌, ℕ, ◌+◌, ◌-◌, ◌*◌, ◌/◌, ◌%◌, ◌<◌, Bool, cond, ◌&&◌, List, [], ◌∷◌, ◌++◌, Some, None, Option, ◌==◌, nat_le, nat_lt}
-use Rattle.std.specs.Option.{option_map}
+use Rattle.std.specs.Option.{option_map, option_to_list}
 use Rattle.std.specs.List.{AllByRecursion}
 use Rattle.halls.specs.declared.spelling.Spelling.{Spelling}
 use Rattle.halls.specs.declared.spelling.Spelling.TheVariants.{Itself, Letter, Digits}
@@ -69,8 +69,7 @@ finished (Low h) = None
 
 -- the byte that is whole, if one is
 abbrev pub kept : Option ℕ → List ℕ
-kept None = []
-kept (Some b) = b ∷ []
+kept o = option_to_list o
 
 abbrev pub onward : Option Turn → (Wanted → Option (List ℕ)) → Option (List ℕ)
 onward None k = None

@@ -36,8 +36,8 @@ stage_of (Join s j) = Some s
 stage_of (Gauges p) = Some Asking
 stage_of (Waiting p) = Some Asking
 stage_of (Take p) = Some Asking
-stage_of (Obey n bs) = Some Talking
-stage_of (Serve n bs) = Some Talking
+stage_of (Obey t) = Some Talking
+stage_of (Serve t) = Some Talking
 stage_of (Split bs) = None
 
 abbrev pub is_dials : Kind → Bool
@@ -58,6 +58,6 @@ suited (Join s j) kind = true
 suited (Gauges p) kind = true
 suited (Waiting p) kind = true
 suited (Take p) kind = true
-suited (Obey n bs) kind = true
-suited (Serve n bs) kind = true
+suited (Obey t) kind = true
+suited (Serve t) kind = true
 suited (Split bs) kind = true

@@ -34,8 +34,8 @@ box_tells m fs (Bank k) = None
 box_tells m fs (Fit p f) = None
 box_tells m fs (Set p d c) = None
 box_tells m fs (Record x) = None
-box_tells m fs (Obey n bs) = None
-box_tells m fs (Serve n bs) = None
+box_tells m fs (Obey t) = None
+box_tells m fs (Serve t) = None
 box_tells m fs (Split bs) = None
 
 -- the feeding map after it: only a join alters it
@@ -48,8 +48,8 @@ box_feeds m fs (Bank k) = fs
 box_feeds m fs (Fit p f) = fs
 box_feeds m fs (Set p d c) = fs
 box_feeds m fs (Record x) = fs
-box_feeds m fs (Obey n bs) = fs
-box_feeds m fs (Serve n bs) = fs
+box_feeds m fs (Obey t) = fs
+box_feeds m fs (Serve t) = fs
 box_feeds m fs (Split bs) = fs
 
 -- an answer is the one told, where one is

@@ -1,17 +1,12 @@
 -- Where a text is parted, and the numbers that words write.
-use Rattle.std.specs.Prelude.{ℕ, ◌+◌, ◌-◌, ◌*◌, Bool, cond, not, List, [], ◌∷◌, length, take, drop, ℤ, pos, neg_ℤ, Some, None, Option, ◌==◌, nat_le, nat_lt}
+use Rattle.std.specs.Prelude.{◌≡◌, ℕ, ◌+◌, ◌-◌, ◌*◌, cond, List, [], ◌∷◌, take, drop, position, ℤ, pos, neg_ℤ, Some, None, Option, MatchOption, Ok, Err, Result, ◌==◌, nat_le}
 use Rattle.std.specs.Borrow.{Bor}
 use Rattle.std.specs.Option.{option_map}
 use Rattle.std.specs.Char.{is_ascii_digit}
-use Rattle.std.specs.List.{prefix_len}
-
--- x is not b
-abbrev pub other : ℕ → ℕ → Bool
-other b x = not (x == b)
 
 -- where b first stands
-unfoldable pub place_of : ℕ → List ℕ → Option ℕ
-place_of b t = cond (nat_lt (prefix_len (other b) t) (length t)) (Some (prefix_len (other b) t)) None
+abbrev pub place_of : ℕ → List ℕ → Option ℕ
+place_of b t = position (λ x. x == b) t
 
 -- what stands before a place, and what behind it
 abbrev pub parts_at : List ℕ → Option ℕ → Option (List ℕ × List ℕ)
@@ -37,6 +32,11 @@ number_of (b ∷ t) = read_on 0 (b ∷ t)
 abbrev pub limited : ℕ → Option ℕ → Option ℕ
 limited m None = None
 limited m (Some v) = cond (nat_le v m) (Some v) None
+
+-- what a conversion makes of a number, where there is one
+abbrev pub Fitting : {N E : Type 0} → (ℕ → Result N E → Type 0) → Option ℕ → Option N → Type 0
+Fitting gives None r = r ≡ None
+Fitting gives (Some v) r = MatchOption r ((e : _) × gives v (Err e)) (λ n. gives v (Ok n))
 
 -- a number of 32 bits, with '-' (45) where it is negative
 abbrev pub signed_of : List ℕ → Option ℤ

@@ -7,7 +7,6 @@ use crate::beneath::{Beneath, Fitted};
 use crate::requests::{Reason, Request};
 use bank::GaugeBank;
 use command::split;
-use fault::Fault;
 use junction::JunctionBox;
 use std::alloc::{AllocError, Global};
 use terminal::Terminal;
@@ -37,26 +36,19 @@ fn anywhere(heap: Global, request: &Request) -> Result<Answer, AllocError> {
     }
 }
 
-// The answer to the setting of a dial, where there are dials.
-fn set_answer(res: Option<Result<(), Fault>>) -> Answer {
-    match res {
-        Some(res) => Answer::of_done(res),
-        None => Answer::Refused(Reason::OtherBank),
-    }
-}
-
 impl<D: Fitted, R: Fitted> Answering for Beneath<D, R> {
     fn answer(&mut self, heap: Global, request: &Request) -> Result<Answer, AllocError> {
         match request {
             Request::Bank(_) | Request::Record(_) => Ok(Answer::Done),
-            Request::Fit { port, thousandths } => {
-                Ok(Answer::of_done(self.fit(*port, *thousandths)))
-            }
+            Request::Fit { port, thousandths } => Ok(self.fit(*port, *thousandths).into()),
             Request::Set {
                 port,
                 digits,
                 conversions,
-            } => Ok(set_answer(self.set(*port, *digits, *conversions))),
+            } => Ok(
+                self.set(*port, *digits, *conversions)
+                    .map_or(Answer::Refused(Reason::OtherBank), Answer::from),
+            ),
             _ => anywhere(heap, request),
         }
     }
@@ -68,46 +60,46 @@ impl<B: GaugeBank> Answering for JunctionBox<B> {
         ensures feeds { self.new.feeds ≡ box_feeds (B.GaugeBank.shows self.old.below) self.old.feeds request.now }
     {
         match request {
-            Request::Join { join, .. } => Ok(Answer::of_done(self.join(join.below, join.above))),
-            Request::Gauges(port) => Ok(Answer::of_gauges(self.gauges(*port))),
-            Request::Waiting(port) => Ok(Answer::of_waiting(self.waiting(*port))),
-            Request::Take(port) => Ok(Answer::of_taken(self.take(*port))),
+            Request::Join { join, .. } => Ok(self.join(join.below, join.above).into()),
+            Request::Gauges(port) => Ok(self.gauges(*port).map(u16::from).into()),
+            Request::Waiting(port) => Ok(self.waiting(*port).into()),
+            Request::Take(port) => Ok(self.take(*port).into()),
             _ => anywhere(heap, request),
         }
     }
 }
 
-// Has a terminal obey one command with so much room.
-fn obey_answer<B: GaugeBank>(
-    terminal: &mut Terminal<B>,
+// Has a terminal write into so much room: what it returned, and what it wrote.
+fn written<T, F: FnOnce(&mut [u8]) -> (T, usize)>(
     heap: Global,
     room: usize,
-    command: &[u8],
-) -> Result<Answer, AllocError> {
+    write: F,
+) -> Result<(T, Vec<u8>), AllocError>
+    requires { F.IsAlwaysCallable write }
+{
     let mut bytes = vec![in heap; 0u8; room]?;
-    let obeyed = terminal.obey(command, bytes.as_mut_slice());
-    bytes.truncate(obeyed.written);
-    Ok(Answer::Obeying { obeyed, bytes })
-}
-
-// Has a terminal serve a byte run with so much room.
-fn serve_answer<B: GaugeBank>(
-    terminal: &mut Terminal<B>,
-    heap: Global,
-    room: usize,
-    run: &[u8],
-) -> Result<Answer, AllocError> {
-    let mut bytes = vec![in heap; 0u8; room]?;
-    let served = terminal.serve(run, bytes.as_mut_slice());
-    bytes.truncate(served.written);
-    Ok(Answer::Serving { served, bytes })
+    let (returned, written) = write(bytes.as_mut_slice());
+    bytes.truncate(written);
+    Ok((returned, bytes))
 }
 
 impl<B: GaugeBank> Answering for Terminal<B> {
     fn answer(&mut self, heap: Global, request: &Request) -> Result<Answer, AllocError> {
         match request {
-            Request::Obey { room, bytes } => obey_answer(self, heap, *room, bytes.as_slice()),
-            Request::Serve { room, bytes } => serve_answer(self, heap, *room, bytes.as_slice()),
+            Request::Obey(talk) => {
+                let (obeyed, bytes) = written(heap, talk.room, |answers| {
+                    let obeyed = self.obey(talk.bytes.as_slice(), answers);
+                    (obeyed, obeyed.written)
+                })?;
+                Ok(Answer::Obeying { obeyed, bytes })
+            }
+            Request::Serve(talk) => {
+                let (served, bytes) = written(heap, talk.room, |answers| {
+                    let served = self.serve(talk.bytes.as_slice(), answers);
+                    (served, served.written)
+                })?;
+                Ok(Answer::Serving { served, bytes })
+            }
             _ => anywhere(heap, request),
         }
     }

@@ -46,7 +46,8 @@ impl Fitted for Recording<'_> {
     }
 }
 
-// A bank of one of the two kinds that a script can ask for. It is generic in them since a recording is lent its records.
+// A bank of one of the two kinds that a script can ask for, a gauge bank itself. It is generic in them since a recording is lent its records.
+// Kept: (a) an enum of two banks with a match in each call, as a rule of the project wants it.
 #[derive(Drop)]
 pub enum Beneath<D, R> {
     Dialled(D),

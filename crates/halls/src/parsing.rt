@@ -1,13 +1,14 @@
 // Reads one line of a script.
 use crate::escapes::unescaped;
-use crate::requests::{Kind, Reason, Request};
+use crate::requests::{Kind, Reason, Request, Talk};
 use crate::stages::Stage;
-use crate::words::{byte_number, parted, room_number, short_number, signed_number};
+use crate::words::{number, parted, room_number, signed_number};
 use bank::Record;
 use junction::Join;
 use std::alloc::{AllocError, Global};
 
 // The words that requests begin with.
+// Kept: (d) a verb is told before the rest of its line is read, since an unknown one is refused before a malformed rest.
 #[derive(Clone, Copy)]
 enum Verb {
     Bank,
@@ -23,30 +24,36 @@ enum Verb {
     Split,
 }
 
-// The request that a word begins.
-fn verb_of(word: &[u8]) -> Option<Verb> {
-    match word {
-        b"bank" => Some(Verb::Bank),
-        b"fit" => Some(Verb::Fit),
-        b"set" => Some(Verb::Set),
-        b"record" => Some(Verb::Record),
-        b"join" => Some(Verb::Join),
-        b"gauges" => Some(Verb::Gauges),
-        b"waiting" => Some(Verb::Waiting),
-        b"take" => Some(Verb::Take),
-        b"obey" => Some(Verb::Obey),
-        b"serve" => Some(Verb::Serve),
-        b"split" => Some(Verb::Split),
-        _ => None,
+impl TryFrom<&[u8]> for Verb {
+    type Error = Reason;
+
+    fn try_from(word: &[u8]) -> Result<Verb, Reason> {
+        match word {
+            b"bank" => Ok(Verb::Bank),
+            b"fit" => Ok(Verb::Fit),
+            b"set" => Ok(Verb::Set),
+            b"record" => Ok(Verb::Record),
+            b"join" => Ok(Verb::Join),
+            b"gauges" => Ok(Verb::Gauges),
+            b"waiting" => Ok(Verb::Waiting),
+            b"take" => Ok(Verb::Take),
+            b"obey" => Ok(Verb::Obey),
+            b"serve" => Ok(Verb::Serve),
+            b"split" => Ok(Verb::Split),
+            _ => Err(Reason::Unknown),
+        }
     }
 }
 
-// KIND.
-fn bank(rest: &[u8]) -> Option<Request> {
-    match rest {
-        b"dials" => Some(Request::Bank(Kind::Dials)),
-        b"recording" => Some(Request::Bank(Kind::Recording)),
-        _ => None,
+impl TryFrom<&[u8]> for Kind {
+    type Error = Reason;
+
+    fn try_from(word: &[u8]) -> Result<Kind, Reason> {
+        match word {
+            b"dials" => Ok(Kind::Dials),
+            b"recording" => Ok(Kind::Recording),
+            _ => Err(Reason::Malformed),
+        }
     }
 }
 
@@ -54,8 +61,8 @@ fn bank(rest: &[u8]) -> Option<Request> {
 fn fit(rest: &[u8]) -> Option<Request> {
     let (port, thousandths) = parted(rest, b' ')?;
     Some(Request::Fit {
-        port: byte_number(port)?,
-        thousandths: short_number(thousandths)?,
+        port: number(port)?,
+        thousandths: number(thousandths)?,
     })
 }
 
@@ -64,9 +71,9 @@ fn set(rest: &[u8]) -> Option<Request> {
     let (port, rest) = parted(rest, b' ')?;
     let (digits, conversions) = parted(rest, b' ')?;
     Some(Request::Set {
-        port: byte_number(port)?,
+        port: number(port)?,
         digits: signed_number(digits)?,
-        conversions: short_number(conversions)?,
+        conversions: number(conversions)?,
     })
 }
 
@@ -74,7 +81,7 @@ fn set(rest: &[u8]) -> Option<Request> {
 fn record(rest: &[u8]) -> Option<Request> {
     let (port, digits) = parted(rest, b' ')?;
     Some(Request::Record(Record {
-        port: byte_number(port)?,
+        port: number(port)?,
         digits: signed_number(digits)?,
     }))
 }
@@ -83,105 +90,61 @@ fn record(rest: &[u8]) -> Option<Request> {
 fn join(rest: &[u8]) -> Option<Request> {
     let (level, rest) = parted(rest, b' ')?;
     let (below, above) = parted(rest, b' ')?;
-    let stage = Stage::of_level(byte_number(level)?)?;
+    let stage = Stage::of_level(number(level)?)?;
     let join = Join {
-        below: byte_number(below)?,
-        above: byte_number(above)?,
+        below: number(below)?,
+        above: number(above)?,
     };
     Some(Request::Join { stage, join })
 }
 
-// A request at a port.
-fn at_port(verb: Verb, rest: &[u8]) -> Option<Request> {
-    let port = byte_number(rest)?;
-    match verb {
-        Verb::Gauges => Some(Request::Gauges(port)),
-        Verb::Waiting => Some(Request::Waiting(port)),
-        Verb::Take => Some(Request::Take(port)),
-        _ => None,
-    }
+// ROOM BYTES, the bytes as they are written.
+fn roomy(rest: &[u8]) -> Option<(usize, &[u8])> {
+    let (room, text) = parted(rest, b' ')?;
+    Some((room_number(room)?, text))
 }
 
 // ROOM BYTES.
-fn with_room(heap: Global, rest: &[u8]) -> Result<Option<(usize, Vec<u8>)>, AllocError> {
-    let Some((room, text)) = parted(rest, b' ') else {
+fn talk(heap: Global, rest: &[u8]) -> Result<Option<Talk>, AllocError> {
+    let Some((room, text)) = roomy(rest) else {
         return Ok(None);
     };
-    let Some(room) = room_number(room) else {
-        return Ok(None);
-    };
-    match unescaped(heap, text)? {
-        Some(bytes) => Ok(Some((room, bytes))),
-        None => Ok(None),
-    }
-}
-
-// A request to obey.
-fn obey(heap: Global, rest: &[u8]) -> Result<Option<Request>, AllocError> {
-    match with_room(heap, rest)? {
-        Some((room, bytes)) => Ok(Some(Request::Obey { room, bytes })),
-        None => Ok(None),
-    }
-}
-
-// A request to serve.
-fn serve(heap: Global, rest: &[u8]) -> Result<Option<Request>, AllocError> {
-    match with_room(heap, rest)? {
-        Some((room, bytes)) => Ok(Some(Request::Serve { room, bytes })),
-        None => Ok(None),
-    }
-}
-
-// A request to split.
-fn split(heap: Global, rest: &[u8]) -> Result<Option<Request>, AllocError> {
-    match unescaped(heap, rest)? {
-        Some(bytes) => Ok(Some(Request::Split(bytes))),
-        None => Ok(None),
-    }
+    Ok(unescaped(heap, text)?.map(|bytes| Talk { room, bytes }))
 }
 
 // The request of a verb and of what stands behind the space after it; none where that is malformed.
 fn request_of(heap: Global, verb: Verb, rest: &[u8]) -> Result<Option<Request>, AllocError> {
     match verb {
-        Verb::Bank => Ok(bank(rest)),
+        Verb::Bank => Ok(Kind::try_from(rest).ok().map(Request::Bank)),
         Verb::Fit => Ok(fit(rest)),
         Verb::Set => Ok(set(rest)),
         Verb::Record => Ok(record(rest)),
         Verb::Join => Ok(join(rest)),
-        Verb::Gauges | Verb::Waiting | Verb::Take => Ok(at_port(verb, rest)),
-        Verb::Obey => obey(heap, rest),
-        Verb::Serve => serve(heap, rest),
-        Verb::Split => split(heap, rest),
+        Verb::Gauges => Ok(number(rest).map(Request::Gauges)),
+        Verb::Waiting => Ok(number(rest).map(Request::Waiting)),
+        Verb::Take => Ok(number(rest).map(Request::Take)),
+        Verb::Obey => Ok(talk(heap, rest)?.map(Request::Obey)),
+        Verb::Serve => Ok(talk(heap, rest)?.map(Request::Serve)),
+        Verb::Split => Ok(unescaped(heap, rest)?.map(Request::Split)),
     }
 }
 
-// The request of a line, or why it is refused. Every request has something behind its first word.
+// The verb of a line, and what stands behind the space after it. Every request has something behind its first word.
+fn opening(line: &[u8]) -> Result<(Verb, &[u8]), Reason> {
+    let (word, rest) = parted(line, b' ').map_or((line, None), |(word, rest)| (word, Some(rest)));
+    let verb = Verb::try_from(word)?;
+    Ok((verb, rest.ok_or(Reason::Malformed)?))
+}
+
+// The request of a line, or why it is refused.
 pub fn request(heap: Global, line: &[u8]) -> Result<Result<Request, Reason>, AllocError> {
-    let (word, rest) = match parted(line, b' ') {
-        Some((word, rest)) => (word, Some(rest)),
-        None => (line, None),
-    };
-    let Some(verb) = verb_of(word) else {
-        return Ok(Err(Reason::Unknown));
-    };
-    let Some(rest) = rest else {
-        return Ok(Err(Reason::Malformed));
-    };
-    match request_of(heap, verb, rest)? {
-        Some(request) => Ok(Ok(request)),
-        None => Ok(Err(Reason::Malformed)),
+    match opening(line) {
+        Ok((verb, rest)) => Ok(request_of(heap, verb, rest)?.ok_or(Reason::Malformed)),
+        Err(reason) => Ok(Err(reason)),
     }
 }
 
 // Whether a line asks for nothing: a comment, or nothing but spaces.
 pub fn is_idle(line: &[u8]) -> bool {
-    if let [b'#', ..] = line {
-        return true;
-    }
-    for byte in line {
-        if *byte != b' ' {
-            return false;
-        }
-    }
-    true
+    line.first() == Some(&b'#') || line.iter().all(|byte| *byte == b' ')
 }

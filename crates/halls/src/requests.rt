@@ -8,10 +8,17 @@ use junction::Join;
 use std::fmt;
 
 // The kinds of bank.
-#[derive(Clone, Copy)]
+#[derive(Clone, Copy, PartialEq, Eq)]
 pub enum Kind {
     Dials,
     Recording,
+}
+
+// Bytes for a terminal, and the room for what it answers.
+#[derive(Drop)]
+pub struct Talk {
+    pub room: usize,
+    pub bytes: Vec<u8>,
 }
 
 // One request.
@@ -35,14 +42,8 @@ pub enum Request {
     Gauges(u8),
     Waiting(u8),
     Take(u8),
-    Obey {
-        room: usize,
-        bytes: Vec<u8>,
-    },
-    Serve {
-        room: usize,
-        bytes: Vec<u8>,
-    },
+    Obey(Talk),
+    Serve(Talk),
     Split(Vec<u8>),
 }
 
@@ -56,7 +57,7 @@ impl Request {
             Request::Fit { .. } | Request::Set { .. } | Request::Record(_) => Some(Stage::Fitting),
             Request::Join { stage, .. } => Some(*stage),
             Request::Gauges(_) | Request::Waiting(_) | Request::Take(_) => Some(Stage::Asking),
-            Request::Obey { .. } | Request::Serve { .. } => Some(Stage::Talking),
+            Request::Obey(_) | Request::Serve(_) => Some(Stage::Talking),
             Request::Split(_) => None,
         }
     }
@@ -66,8 +67,8 @@ impl Request {
         ensures { result ≡ suited self.now kind }
     {
         match self {
-            Request::Set { .. } => matches!(kind, Kind::Dials),
-            Request::Record(_) => matches!(kind, Kind::Recording),
+            Request::Set { .. } => kind == Kind::Dials,
+            Request::Record(_) => kind == Kind::Recording,
             _ => true,
         }
     }

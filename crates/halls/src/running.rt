@@ -17,12 +17,8 @@ use terminal::Terminal;
 fn through(steps: &[Step], stage: Stage) -> (&[Step], &[Step])
     ensures { result.0.now ++ result.1.now ≡ steps.now }
 {
-    for (i, step) in steps.iter().enumerate() {
-        if step.stage.is_after(stage) {
-            return steps.split_at(i);
-        }
-    }
-    steps.split_at(steps.len())
+    let end = steps.partition_point(|step| !step.stage.is_after(stage));
+    steps.split_at(end)
 }
 
 // Prints the line for an answer.
@@ -45,43 +41,21 @@ fn answer_all<S: Answering>(rt: &HostRuntime, stand: &mut S, steps: &[Step]) -> 
     Ok(())
 }
 
-// A new box on a bank, joined as the steps say.
-fn joined<B: GaugeBank + Drop>(
+// A new box on a bank, joined as the steps up to the end of a stage say, and the steps after those.
+fn raised<'a, B: GaugeBank + Drop>(
     rt: &HostRuntime,
-    below: B,
-    steps: &[Step],
-) -> io::Result<JunctionBox<B>> {
-    let mut junction = JunctionBox::new(below);
-    answer_all(rt, &mut junction, steps)?;
-    Ok(junction)
+    bank: B,
+    stage: Stage,
+    steps: &'a [Step],
+) -> io::Result<(JunctionBox<B>, &'a [Step])> {
+    let (joining, steps) = through(steps, stage);
+    let mut junction = JunctionBox::new(bank);
+    answer_all(rt, &mut junction, joining)?;
+    Ok((junction, steps))
 }
 
-// Asks the topmost box, then has a terminal over it obey and serve.
-fn use_top<B: GaugeBank + Drop>(
-    rt: &HostRuntime,
-    mut top: JunctionBox<B>,
-    steps: &[Step],
-) -> io::Result<()> {
-    let (asking, talking) = through(steps, Stage::Asking);
-    answer_all(rt, &mut top, asking)?;
-    let mut terminal = Terminal::new(top);
-    answer_all(rt, &mut terminal, talking)
-}
-
-// Four boxes on a bank, and a terminal over the topmost.
-fn pile_up<B: GaugeBank + Drop>(rt: &HostRuntime, bank: B, steps: &[Step]) -> io::Result<()> {
-    let (first, steps) = through(steps, Stage::FirstBox);
-    let bank = joined(rt, bank, first)?;
-    let (second, steps) = through(steps, Stage::SecondBox);
-    let bank = joined(rt, bank, second)?;
-    let (third, steps) = through(steps, Stage::ThirdBox);
-    let bank = joined(rt, bank, third)?;
-    let (fourth, steps) = through(steps, Stage::FourthBox);
-    let bank = joined(rt, bank, fourth)?;
-    use_top(rt, bank, steps)
-}
-
-// The bank of a kind, fitted out as the steps say, and what stands on it.
+// Fits out the bank of a kind, stands four boxes on it, asks the topmost, and has a terminal over that obey and serve.
+// Kept: (d) a call for each box, for the type of a box names that of the bank beneath it, and a loop has one type.
 fn build<D: Fitted + GaugeBank + Drop, R: Fitted + GaugeBank + Drop>(
     rt: &HostRuntime,
     kind: Kind,
@@ -92,11 +66,20 @@ fn build<D: Fitted + GaugeBank + Drop, R: Fitted + GaugeBank + Drop>(
     let mut beneath = Beneath::of_kind(kind, dials, recording);
     let (fitting, steps) = through(steps, Stage::Fitting);
     answer_all(rt, &mut beneath, fitting)?;
-    pile_up(rt, beneath, steps)
+    let (bank, steps) = raised(rt, beneath, Stage::FirstBox, steps)?;
+    let (bank, steps) = raised(rt, bank, Stage::SecondBox, steps)?;
+    let (bank, steps) = raised(rt, bank, Stage::ThirdBox, steps)?;
+    let (mut top, steps) = raised(rt, bank, Stage::FourthBox, steps)?;
+    let (asking, talking) = through(steps, Stage::Asking);
+    answer_all(rt, &mut top, asking)?;
+    answer_all(rt, &mut Terminal::new(top), talking)
 }
 
-// Goes through a script.
-fn run(rt: &HostRuntime, script: &Script) -> io::Result<()> {
+// Reads a script from standard input to its end, goes through it, and prints a line for each request.
+pub fn play(rt: &HostRuntime) -> io::Result<()> {
+    let mut text = Vec::new(rt.alloc());
+    rt.stdin().read_to_end(&mut text)?;
+    let script = Script::read(rt.alloc(), text.as_slice())?;
     let recording = Recording::new(script.records.as_slice());
     build(
         rt,
@@ -105,12 +88,4 @@ fn run(rt: &HostRuntime, script: &Script) -> io::Result<()> {
         recording,
         script.steps.as_slice(),
     )
-}
-
-// Reads a script from standard input to its end, goes through it, and prints a line for each request.
-pub fn play(rt: &HostRuntime) -> io::Result<()> {
-    let mut text = Vec::new(rt.alloc());
-    rt.stdin().read_to_end(&mut text)?;
-    let script = Script::read(rt.alloc(), text.as_slice())?;
-    run(rt, &script)
 }

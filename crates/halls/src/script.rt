@@ -2,11 +2,8 @@
 use crate::parsing::{is_idle, request};
 use crate::requests::{Kind, Reason, Request};
 use crate::stages::Stage;
-use crate::words::parted;
 use bank::Record;
 use std::alloc::{AllocError, Global};
-
-const LINE_FEED: u8 = 0x0A;
 
 // A line that asks for something: its number, the stage in which it is met, and its request, or why it is refused.
 #[derive(Drop)]
@@ -34,14 +31,9 @@ impl Script {
             steps: Vec::new(heap),
             stage: Stage::Opening,
         };
-        let mut left = text;
-        let mut number = 1usize;
-        while let Some((line, rest)) = parted(left, LINE_FEED) {
-            script.add(heap, number, line)?;
-            number = number.saturating_add(1);
-            left = rest;
+        for (above, line) in text.split(|byte| *byte == b'\n').enumerate() {
+            script.add(heap, above.saturating_add(1), line)?;
         }
-        script.add(heap, number, left)?;
         Ok(script)
     }
 
@@ -50,43 +42,31 @@ impl Script {
         if is_idle(line) {
             return Ok(());
         }
-        let asked = match request(heap, line)? {
-            Ok(request) => self.admitted(request)?,
-            Err(reason) => Err(reason),
-        };
-        let step = Step {
+        let asked = request(heap, line)?.and_then(|request| self.admitted(request));
+        if let Ok(request) = &asked {
+            self.note(request)?;
+        }
+        self.steps.push(Step {
             line: number,
             stage: self.stage,
             asked,
-        };
-        self.steps.push(step)?;
+        })?;
         Ok(())
     }
 
-    // A request that comes in its order and suits the bank, once it is noted; else why it is refused, which alters nothing.
-    fn admitted(&mut self, request: Request) -> Result<Result<Request, Reason>, AllocError> {
-        match self.stage.after(request.stage(), request.suits(self.kind)) {
-            Ok(stage) => {
-                self.stage = stage;
-                self.note(&request)?;
-                Ok(Ok(request))
-            }
-            Err(reason) => Ok(Err(reason)),
-        }
+    // A request that comes in its order and suits the bank; else why it is refused, which alters nothing.
+    fn admitted(&mut self, request: Request) -> Result<Request, Reason> {
+        self.stage = self.stage.after(request.stage(), request.suits(self.kind))?;
+        Ok(request)
     }
 
     // Keeps the kind of bank, and a record.
     fn note(&mut self, request: &Request) -> Result<(), AllocError> {
         match request {
-            Request::Bank(kind) => {
-                self.kind = *kind;
-                Ok(())
-            }
-            Request::Record(record) => {
-                self.records.push(*record)?;
-                Ok(())
-            }
-            _ => Ok(()),
+            Request::Bank(kind) => self.kind = *kind,
+            Request::Record(record) => self.records.push(*record)?,
+            _ => {}
         }
+        Ok(())
     }
 }

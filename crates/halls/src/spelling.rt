@@ -2,6 +2,8 @@
 ghost use Rattle.std.specs.Prelude.{◌≡◌, ◌<◌};
 ghost use Rattle.halls.specs.Escapes.{glyph_of, spelled, ReadsBack};
 
+use std::fmt;
+
 // A byte as itself, or as a backslash with a letter, or as `\x` with two hexadecimal digits.
 #[derive(Clone, Copy)]
 pub enum Spelling {
@@ -11,6 +13,7 @@ pub enum Spelling {
 }
 
 // The hexadecimal digit of a number.
+// Kept: (d) upper case: `from_digit` gives lower case, and a char.
 fn glyph(nibble: u8) -> u8
     requires { nibble < 16 }
     ensures { result ≡ glyph_of nibble }
@@ -22,29 +25,33 @@ fn glyph(nibble: u8) -> u8
     }
 }
 
-// How a byte is written.
-fn spelling_of(byte: u8) -> Spelling
-    ensures { result ≡ spelled byte }
-{
-    if byte == b'\\' {
-        Spelling::Letter(b'\\')
-    } else if byte == b'\r' {
-        Spelling::Letter(b'r')
-    } else if byte == b'\n' {
-        Spelling::Letter(b'n')
-    } else if byte >= 0x20 && byte <= 0x7E {
-        Spelling::Itself(byte)
-    } else {
-        Spelling::Digits(glyph(byte / 16), glyph(byte % 16))
-    }
-}
+// How a byte is written: what is written for bytes is read as those bytes.
+impl From<u8> for Spelling {
+    ghost from_gives = { λ byte s. s ≡ spelled byte };
 
-impl Spelling {
-    // How a byte is written: what is written for bytes is read as those bytes.
-    pub fn of(byte: u8) -> Spelling
+    #[tactic(auto, using(crate::proofs::ReadBack::read_back))]
+    fn from(byte: u8) -> Spelling
         ensures value { result ≡ spelled byte }
         ensures law { ReadsBack }
     {
-        spelling_of(byte)
+        match byte {
+            b'\\' => Spelling::Letter(b'\\'),
+            b'\r' => Spelling::Letter(b'r'),
+            b'\n' => Spelling::Letter(b'n'),
+            0x20..=0x7E => Spelling::Itself(byte),
+            _ => Spelling::Digits(glyph(byte / 16), glyph(byte % 16)),
+        }
+    }
+}
+
+impl fmt::Display for Spelling {
+    fn fmt<W: fmt::Write>(&self, f: &mut fmt::Formatter<W>) -> fmt::Result {
+        match self {
+            Spelling::Itself(byte) => f.write_char(char::from(*byte)),
+            Spelling::Letter(letter) => write!(f, "\\{}", char::from(*letter)),
+            Spelling::Digits(high, low) => {
+                write!(f, "\\x{}{}", char::from(*high), char::from(*low))
+            }
+        }
     }
 }

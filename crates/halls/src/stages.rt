@@ -6,16 +6,16 @@ ghost use Rattle.halls.specs.Order.{opened, entered};
 use crate::requests::Reason;
 
 // What a script may still ask for: each stage comes after those above it.
-#[derive(Clone, Copy)]
+#[derive(Clone, Copy, PartialEq, Eq, PartialOrd, Ord)]
 pub enum Stage {
-    Opening = 0,
-    Fitting = 1,
-    FirstBox = 2,
-    SecondBox = 3,
-    ThirdBox = 4,
-    FourthBox = 5,
-    Asking = 6,
-    Talking = 7,
+    Opening,
+    Fitting,
+    FirstBox,
+    SecondBox,
+    ThirdBox,
+    FourthBox,
+    Asking,
+    Talking,
 }
 
 impl Stage {
@@ -23,7 +23,7 @@ impl Stage {
     pub fn admits(self, next: Stage) -> bool
         ensures { result ≡ nat_le (rank self) (rank next) }
     {
-        self as u8 <= next as u8
+        self <= next
     }
 
     // The stage after a request that belongs to a stage, or to any, and that suits the bank or not; else why it is refused.
@@ -56,10 +56,11 @@ impl Stage {
     pub fn is_after(self, other: Stage) -> bool
         ensures { result ≡ nat_lt (rank other) (rank self) }
     {
-        self as u8 > other as u8
+        self > other
     }
 
     // The stage in which the box of a level is joined, 1 the lowest.
+    // Kept: (d) a level numbers the boxes and not the stages, so a plain conversion from a number would hide what it counts.
     pub fn of_level(level: u8) -> Option<Stage>
         ensures { result ≡ box_stage level }
     {

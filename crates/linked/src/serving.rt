@@ -3,7 +3,7 @@ ghost use Rattle.std.specs.Prelude.{◌≡◌, ◌++◌, ◌≤◌, length, drop
 ghost use Rattle.terminal.specs.Buses.{silent};
 ghost use Rattle.terminal.specs.Serves.{served as obeyed, answered, report_of};
 
-use bank::{Dials, GaugeBank, Record, Recording};
+use bank::{Dials, GaugeBank, MOST_RECORDS, Record, Recording};
 use junction::JunctionBox;
 use terminal::{Served, Terminal};
 
@@ -20,7 +20,7 @@ pub fn served<B: GaugeBank + Drop>(bank: B, run: &[u8], answers: &mut [u8]) -> S
 // Dials at ports 0 to 31 with these digits, a gauge of corner factor 1,000 and 65,535 conversions each.
 fn dials(digits: &[i32]) -> Dials {
     let mut dials = Dials::new();
-    for (port, one) in (0..32u8).zip(digits.iter()) {
+    for (port, one) in (0..32u8).zip(digits) {
         let _ = dials.fit(port, 1000);
         let _ = dials.set(port, *one, 65_535);
     }
@@ -30,8 +30,8 @@ fn dials(digits: &[i32]) -> Dials {
 // A box on a bank, in which so many ports from 1 on feed port 1.
 fn joined<B: GaugeBank>(bank: B, ports: u8) -> JunctionBox<B> {
     let mut junction = JunctionBox::new(bank);
-    for port in 0..ports {
-        let _ = junction.join(port.saturating_add(1), 1);
+    for port in 1..=ports {
+        let _ = junction.join(port, 1);
     }
     junction
 }
@@ -52,30 +52,17 @@ pub extern "C" fn weighing_serve_dials(
         return served(dials, run, answers).written;
     }
     let one = joined(dials, ports);
-    if boxes == 1 {
-        return served(one, run, answers).written;
-    }
-    let two = JunctionBox::new(one);
-    if boxes == 2 {
-        return served(two, run, answers).written;
-    }
-    let three = JunctionBox::new(two);
-    if boxes == 3 {
-        return served(three, run, answers).written;
-    }
-    served(JunctionBox::new(three), run, answers).written
-}
-
-// How many records of a recording count.
-const RECORDS: usize = 65_535;
-
-// Records these digits at port 1, as many as there are places.
-fn record(digits: &[i32], records: &mut [Record]) {
-    for (place, one) in records.iter_mut().zip(digits.iter()) {
-        *place = Record {
-            port: 1,
-            digits: *one,
-        };
+    // Kept: (d) an arm for each number of boxes: the type of a box names that of the bank beneath it.
+    match boxes {
+        1 => served(one, run, answers).written,
+        2 => served(JunctionBox::new(one), run, answers).written,
+        3 => served(JunctionBox::new(JunctionBox::new(one)), run, answers).written,
+        _ => served(
+            JunctionBox::new(JunctionBox::new(JunctionBox::new(one))),
+            run,
+            answers,
+        )
+        .written,
     }
 }
 
@@ -84,8 +71,11 @@ fn record(digits: &[i32], records: &mut [Record]) {
 pub extern "C" fn weighing_serve_recording(digits: &[i32], run: &[u8], answers: &mut [u8]) -> usize
     ensures { result ≤ length answers.old }
 {
-    let mut records = [Record { port: 1, digits: 0 }; RECORDS];
-    record(digits, &mut records);
+    // Kept: (a) records in fixed memory, as many as count: a function that C calls is given no allocator.
+    let mut records = [Record { port: 1, digits: 0 }; MOST_RECORDS];
+    for (record, one) in records.iter_mut().zip(digits) {
+        record.digits = *one;
+    }
     let mut recording = Recording::new(&records);
     let _ = recording.fit(1, 1000);
     served(recording, run, answers).written
