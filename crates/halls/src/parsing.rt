@@ -2,7 +2,7 @@
 use crate::escapes::unescaped;
 use crate::requests::{Kind, Reason, Request, Talk};
 use crate::stages::Stage;
-use crate::words::{number, parted, room_number, signed_number};
+use crate::words::{byte_number, parted, room_number, short_number, signed_number};
 use bank::Record;
 use junction::Join;
 use std::alloc::{AllocError, Global};
@@ -61,8 +61,8 @@ impl TryFrom<&[u8]> for Kind {
 fn fit(rest: &[u8]) -> Option<Request> {
     let (port, thousandths) = parted(rest, b' ')?;
     Some(Request::Fit {
-        port: number(port)?,
-        thousandths: number(thousandths)?,
+        port: byte_number(port)?,
+        thousandths: short_number(thousandths)?,
     })
 }
 
@@ -71,9 +71,9 @@ fn set(rest: &[u8]) -> Option<Request> {
     let (port, rest) = parted(rest, b' ')?;
     let (digits, conversions) = parted(rest, b' ')?;
     Some(Request::Set {
-        port: number(port)?,
+        port: byte_number(port)?,
         digits: signed_number(digits)?,
-        conversions: number(conversions)?,
+        conversions: short_number(conversions)?,
     })
 }
 
@@ -81,7 +81,7 @@ fn set(rest: &[u8]) -> Option<Request> {
 fn record(rest: &[u8]) -> Option<Request> {
     let (port, digits) = parted(rest, b' ')?;
     Some(Request::Record(Record {
-        port: number(port)?,
+        port: byte_number(port)?,
         digits: signed_number(digits)?,
     }))
 }
@@ -90,10 +90,10 @@ fn record(rest: &[u8]) -> Option<Request> {
 fn join(rest: &[u8]) -> Option<Request> {
     let (level, rest) = parted(rest, b' ')?;
     let (below, above) = parted(rest, b' ')?;
-    let stage = Stage::of_level(number(level)?)?;
+    let stage = Stage::of_level(byte_number(level)?)?;
     let join = Join {
-        below: number(below)?,
-        above: number(above)?,
+        below: byte_number(below)?,
+        above: byte_number(above)?,
     };
     Some(Request::Join { stage, join })
 }
@@ -120,9 +120,9 @@ fn request_of(heap: Global, verb: Verb, rest: &[u8]) -> Result<Option<Request>, 
         Verb::Set => Ok(set(rest)),
         Verb::Record => Ok(record(rest)),
         Verb::Join => Ok(join(rest)),
-        Verb::Gauges => Ok(number(rest).map(Request::Gauges)),
-        Verb::Waiting => Ok(number(rest).map(Request::Waiting)),
-        Verb::Take => Ok(number(rest).map(Request::Take)),
+        Verb::Gauges => Ok(byte_number(rest).map(Request::Gauges)),
+        Verb::Waiting => Ok(byte_number(rest).map(Request::Waiting)),
+        Verb::Take => Ok(byte_number(rest).map(Request::Take)),
         Verb::Obey => Ok(talk(heap, rest)?.map(Request::Obey)),
         Verb::Serve => Ok(talk(heap, rest)?.map(Request::Serve)),
         Verb::Split => Ok(unescaped(heap, rest)?.map(Request::Split)),

@@ -42,12 +42,26 @@ fn number_within(word: &[u8], most: u64) -> Option<u64>
 }
 
 // A decimal number of one digit or more, of a type of at most 32 bits.
-pub fn number<N: TryFrom<u64>>(word: &[u8]) -> Option<N>
+fn number<N: TryFrom<u64>>(word: &[u8]) -> Option<N>
 where
     N::Error: Drop,
     ensures { Fitting N.try_from_gives (limited 4294967295 (number_of word.now)) result }
 {
     N::try_from(number_within(word, 4_294_967_295)?).ok()
+}
+
+// A number of 8 bits.
+pub fn byte_number(word: &[u8]) -> Option<u8>
+    ensures { result ≡ limited 255 (number_of word.now) }
+{
+    number(word)
+}
+
+// A number of 16 bits.
+pub fn short_number(word: &[u8]) -> Option<u16>
+    ensures { result ≡ limited 65535 (number_of word.now) }
+{
+    number(word)
 }
 
 // A number of bytes for answers: at most 65,536.
