@@ -2,4 +2,9 @@ pub mod Putting
 pub mod Totals
 pub mod Weighings
 pub mod Sayings
+pub mod Left
+pub mod Obeyed
+pub mod Keeping
+pub mod Asking
+pub mod Exact
 pub mod Laws

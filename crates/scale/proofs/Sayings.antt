@@ -31,7 +31,7 @@ use Rattle.scale.specs.Hearing.{in_mode, voiced, held_answer, weighs, by_task, o
 use Rattle.scale.specs.Measuring.{measures}
 use Rattle.scale.specs.Orders.{Task, KeepDead, SetFull, Tare, Weigh, Plain, few, block_size, task_of}
 
-length_weighings : (s : Settings) (k : ℕ) (xs : List Reading) → length (weighings s k xs) ≡ k
+pub length_weighings : (s : Settings) (k : ℕ) (xs : List Reading) → length (weighings s k xs) ≡ k
 unfolding weighings
 length_weighings s zero xs = refl
 length_weighings s (suc k) xs = ap suc (length_weighings s k (drop (readings_of s.averaging) xs))

@@ -12,4 +12,6 @@ pub mod Entries
 pub mod Queries
 pub mod Blocks
 pub mod Hearing
+pub mod Keeping
+pub mod Exact
 pub mod Laws

@@ -1,0 +1,193 @@
+-- What an order that needs no gauge, or any order, leaves of a scale and its port.
+use Rattle.std.proofs.Common.{◌≡◌, ◌⊎◌, ◌∙◌, ℕ, ◌≤◌, Bool, true, false, cond, eqb, ltb, leb, List, length, ℤ, pos, negsuc, ◌-ℤ◌, ◌<ℤ◌, Some, None, Ok, Err, Option, Result, refl, sym, ap, subst, inl, inr, arith}
+use Rattle.std.proofs.lemmas.Bool.{cond_both}
+use Rattle.std.proofs.lemmas.Int.{ints}
+use Rattle.std.specs.Option.{option_map}
+use lib.Signed.{lt_z}
+use Rattle.fault.specs.declared.faults.Fault.{Fault}
+use Rattle.bank.specs.Ports.{Port}
+use Rattle.bank.specs.Fitting.{mapped_ok}
+use Rattle.command.specs.Conditions.{needs_password, broadcast_of}
+use Rattle.command.specs.Texts.{same_text}
+use Rattle.command.specs.declared.orders.Argument.{Argument}
+use Rattle.command.specs.declared.orders.Argument.TheVariants.{Absent, Number, Text}
+use Rattle.command.specs.declared.orders.Form.{Form}
+use Rattle.command.specs.declared.orders.Form.TheVariants.{Entry, Query}
+use Rattle.command.specs.declared.orders.Mnemonic.{Mnemonic}
+use Rattle.command.specs.declared.orders.Mnemonic.TheVariants.{Cof, Icr, Nov, Rsn, Ldw, Lwt, Tar, Tas, Tav, Msv, Spw, Dpw, Tdd, Res, Esr}
+use Rattle.command.specs.declared.orders.Order.{Order}
+use Rattle.command.specs.declared.texts.Text.{Text as a_text}
+use Rattle.value.specs.Output.{numbered_format}
+use Rattle.scale.specs.declared.answers.Answer.{Answer}
+use Rattle.scale.specs.declared.answers.Answer.TheVariants.{Silence, Line, Memory, Value}
+use Rattle.scale.specs.declared.averaging.Averaging.{Averaging}
+use Rattle.scale.specs.declared.measuring.Measurement.{Measurement}
+use Rattle.scale.specs.declared.modes.Mode.{Mode}
+use Rattle.scale.specs.declared.modes.Mode.TheVariants.{Selected, Broadcast}
+use Rattle.scale.specs.declared.settings.Settings.{Settings}
+use Rattle.scale.specs.declared.state.State.{State}
+use Rattle.scale.specs.Blocks.{readings_for, holding, refused_or}
+use Rattle.scale.specs.Calibrating.{Acted, load_given, given_port, load_of, keeps, calibrates, full_over, tared, dead_loads, full_loads, tares}
+use Rattle.scale.specs.Choices.{readings_of, averaging_numbered, step_valued, display_numbered}
+use Rattle.scale.specs.Entering.{byte_of, by_byte, renominal, entered}
+use Rattle.scale.specs.Entries.{Said, put_in_force, set_by, opens, unlock_by, relock_by, default_at, default_by, enters_by}
+use Rattle.scale.specs.Exact.{span, Spanned}
+use Rattle.scale.proofs.Left.{Kept, Went, Left, Tame, AllTame, unmoved, as_before, number_tame, text_tame, size_tame, dead_left, fulls_left, tares_left}
+use Rattle.scale.specs.Hearing.{Step, voiced, weighs, by_form, by_task, permitted_by, obeys_by, obeys}
+use Rattle.scale.specs.Keeping.{numbered, opened_left, port_left, weighs_by}
+use Rattle.scale.specs.Measuring.{dropped, measurement, measures, measured_port}
+use Rattle.scale.specs.Orders.{Task, KeepDead, SetFull, Tare, Weigh, Plain, few, block_size, number_in, text_in, task_of}
+use Rattle.scale.specs.Queries.{tells, clears, asked_for}
+use Rattle.scale.specs.Settings.{with_format, with_averaging, with_nominal, with_step, with_display}
+
+-- ---- orders that leave the port alone
+abbrev LeftS : Order → State → Port → Said → Type 0
+LeftS o s p x = Left false o s p x.state p x.reply
+
+-- a setting that is entered leaves the span
+abbrev SameSpan : Settings → Option Settings → Type 0
+SameSpan s None = Unit {0}
+SameSpan s (Some x) = span x ≡ span s
+
+map_same : {A : Type 0} (s : Settings) (g : A → Settings) → ((x : A) → span (g x) ≡ span s) → (o : Option A) → SameSpan s (option_map g o)
+map_same s g h None = tt
+map_same s g h (Some x) = h x
+
+byte_same : (s : Settings) (f : ℕ → Option Settings) → ((b : ℕ) → SameSpan s (f b)) → (b : Option ℕ) → SameSpan s (by_byte f b)
+byte_same s f h None = tt
+byte_same s f h (Some b) = h b
+
+nominal_same : (s : Settings) (n : ℤ) → SameSpan s (renominal s n)
+nominal_same s (pos n) = refl
+nominal_same s (negsuc n) = tt
+
+entered_same : (s : Settings) (c : Mnemonic) (n : ℤ) → SameSpan s (entered s c n)
+entered_same s Cof n = byte_same s _ (λ b. map_same s (with_format s) (λ x. refl) (numbered_format b)) (byte_of n)
+entered_same s Icr n = byte_same s _ (λ b. map_same s (with_averaging s) (λ x. refl) (averaging_numbered b)) (byte_of n)
+entered_same s Nov n = nominal_same s n
+entered_same s Rsn n = byte_same s _ (λ b. map_same s (with_step s) (λ x. refl) (step_valued b)) (byte_of n)
+entered_same s Tas n = byte_same s _ (λ b. map_same s (with_display s) (λ x. refl) (display_numbered b)) (byte_of n)
+entered_same s Ldw n = tt
+entered_same s Lwt n = tt
+entered_same s Tar n = tt
+entered_same s Tav n = tt
+entered_same s Msv n = tt
+entered_same s Spw n = tt
+entered_same s Dpw n = tt
+entered_same s Tdd n = tt
+entered_same s Res n = tt
+entered_same s Esr n = tt
+
+put_left : (o : Order) (s : State) (p : Port) (place : ℕ) (x : Option Settings) → SameSpan s.force x → LeftS o s p (put_in_force s place x)
+put_left o s p place None h = unmoved _ o s p (refl, refl)
+put_left o s p place (Some x) h = as_before false s _ refl refl (λ k. record { force = subst (λ (z : ℤ). pos 0 <ℤ z) (sym h) k.force; stored = k.stored })
+
+set_left : (o : Order) (s : State) (p : Port) (r : Result ℤ Fault) → AllTame r → LeftS o s p (set_by o s r)
+set_left o s p (Err f) h = unmoved f o s p h
+set_left o s p (Ok n) h = put_left o s p o.place (entered s.force o.name n) (entered_same s.force o.name n)
+
+opens_left : (a : ℕ) (o : Order) (s : State) (p : Port) (b : Bool) → LeftS o s p (opens a s b)
+opens_left a o s p true = as_before false s _ refl refl (λ x. record { force = x.force; stored = x.stored })
+opens_left a o s p false = record { force = refl; stored = refl; pending = refl; held = refl; memory = refl; opened = refl; port = refl }
+
+unlock_left : (a : ℕ) (o : Order) (s : State) (p : Port) (r : Result a_text Fault) → AllTame r → LeftS o s p (unlock_by a s r)
+unlock_left a o s p (Err f) h = unmoved f o s p h
+unlock_left a o s p (Ok t) h = opens_left a o s p (same_text t s.force.password)
+
+relock_left : (o : Order) (s : State) (p : Port) (r : Result a_text Fault) → AllTame r → LeftS o s p (relock_by s r)
+relock_left o s p (Err f) h = unmoved f o s p h
+relock_left o s p (Ok t) h = as_before false s _ refl refl (λ x. record { force = x.force; stored = x.stored })
+
+default_left : (o : Order) (place : ℕ) (s : State) (p : Port) (n : ℤ) → LeftS o s p (default_at place s n)
+default_left o place s p (pos n) =
+    cond_both (eqb n 0) _ _ (LeftS o s p) (λ _. as_before false s _ refl refl (λ x. record { force = omega (arith, ints); stored = omega (arith, ints) }))
+    (λ _. cond_both (eqb n 1) _ _ (LeftS o s p) (λ _. as_before false s _ refl refl (λ x. record { force = x.force; stored = x.force })) (λ _. unmoved _ o s p (refl, refl)))
+default_left o place s p (negsuc n) = unmoved _ o s p (refl, refl)
+
+defaults_left : (o : Order) (place : ℕ) (s : State) (p : Port) (r : Result ℤ Fault) → AllTame r → LeftS o s p (default_by place s r)
+defaults_left o place s p (Err f) h = unmoved f o s p h
+defaults_left o place s p (Ok n) h = default_left o place s p n
+
+enters_left : (n : Mnemonic) (a : ℕ) (o : Order) (s : State) (p : Port) → LeftS o s p (enters_by n a o s)
+enters_left Cof a o s p = set_left o s p (number_in o.argument o.place) (number_tame o.argument o.place)
+enters_left Icr a o s p = set_left o s p (number_in o.argument o.place) (number_tame o.argument o.place)
+enters_left Nov a o s p = set_left o s p (number_in o.argument o.place) (number_tame o.argument o.place)
+enters_left Rsn a o s p = set_left o s p (number_in o.argument o.place) (number_tame o.argument o.place)
+enters_left Tas a o s p = set_left o s p (number_in o.argument o.place) (number_tame o.argument o.place)
+enters_left Spw a o s p = unlock_left a o s p (text_in o.argument o.place) (text_tame o.argument o.place)
+enters_left Dpw a o s p = relock_left o s p (text_in o.argument o.place) (text_tame o.argument o.place)
+enters_left Tdd a o s p = defaults_left o o.place s p (number_in o.argument o.place) (number_tame o.argument o.place)
+enters_left Res a o s p = record { memory = inr refl; held = λ _. inr refl; spans = λ x. record { force = x.stored; stored = x.stored } }
+enters_left Ldw a o s p = unmoved _ o s p (refl, refl)
+enters_left Lwt a o s p = unmoved _ o s p (refl, refl)
+enters_left Tar a o s p = unmoved _ o s p (refl, refl)
+enters_left Tav a o s p = unmoved _ o s p (refl, refl)
+enters_left Msv a o s p = unmoved _ o s p (refl, refl)
+enters_left Esr a o s p = unmoved _ o s p (refl, refl)
+
+cleared_left : (s : State) (x : Answer) → Went false s (clears s x)
+cleared_left s Silence = as_before false s s refl refl (λ x. x)
+cleared_left s (Line l) = as_before false s s refl refl (λ x. x)
+cleared_left s (Memory m) = record { memory = inr refl; held = λ _. inl refl; spans = λ x. record { force = x.force; stored = x.stored } }
+cleared_left s (Value t) = as_before false s s refl refl (λ x. x)
+
+asked_left : (o : Order) (s : State) (p : Port) (x : Option Answer) → LeftS o s p (asked_for o.place s x)
+asked_left o s p None = unmoved _ o s p (refl, refl)
+asked_left o s p (Some x) = cleared_left s x
+
+form_left : (f : Form) (a : ℕ) (o : Order) (s : State) (p : Port) → LeftS o s p (by_form f a o s)
+form_left Entry a o s p = enters_left o.name a o s p
+form_left Query a o s p = asked_left o s p (tells o.name s)
+
+-- ---- weighing
+abbrev LeftW : Bool → Order → State → Port → Step → Type 0
+LeftW b o s p x = Left b o s p x.state x.port x.reply
+
+block_left : (o : Order) (s : State) (p q : Port) (b : Bool) (bytes : List ℕ) (f : Fault) → Tame f → Left false o s p s (cond b q p) (cond b (Ok bytes) (Err f))
+block_left o s p q true bytes f h = as_before false s s refl refl (λ x. x)
+block_left o s p q false bytes f h = unmoved f o s p h
+
+hold_left : (o : Order) (s : State) (p q : Port) (b : Bool) (x : Measurement) (f : Fault) → Tame f → Left true o s p (holding s (cond b (Ok x) (Err f))) (cond b q p) (refused_or (cond b (Ok x) (Err f)))
+hold_left o s p q true x f h = record { memory = inl refl; held = λ e. absurd (grind arith); spans = λ k. record { force = k.force; stored = k.stored } }
+hold_left o s p q false x f h = unmoved f o s p h
+
+-- whether an order of a task may leave a value to hand out
+abbrev pub gives : Mode → Task → Bool
+gives Selected t = false
+gives Broadcast t = weighs_by t
+
+weighs_left : (m : Mode) (a : ℕ) (o : Order) (s : State) (p : Port) (r : Result ℕ Fault) → AllTame r → LeftW (gives m Weigh) o s p (weighs m a s p r)
+weighs_left Selected a o s p (Err f) h = unmoved f o s p h
+weighs_left Broadcast a o s p (Err f) h = unmoved f o s p h
+weighs_left Selected a o s p (Ok k) h = block_left o s p _ (leb (readings_for s.force k) (length p.waiting)) _ _ (refl, refl)
+weighs_left Broadcast a o s p (Ok k) h = hold_left o s p _ (leb (readings_of s.force.averaging) (length p.waiting)) _ _ (refl, refl)
+
+-- ---- every order
+-- what leaves no value to hand out, in either mode
+any_mode : (m : Mode) (b c : Bool) (o : Order) (s : State) (p : Port) (t : State) (q : Port) (a : ℕ) (r : Result Answer Fault) → Left b o s p t q r → c ≡ b → Left c o s p t q (mapped_ok (voiced m a) r)
+any_mode m b c o s p t q a (Ok x) h e = record { memory = h.memory; held = λ k. h.held (sym e ∙ k); spans = h.spans }
+any_mode m b c o s p t q a (Err f) h e = h
+
+quiet : (m : Mode) (t : Task) → weighs_by t ≡ false → gives m t ≡ false
+quiet Selected t h = refl
+quiet Broadcast t h = h
+
+task_left : (t : Task) (m : Mode) (a : ℕ) (o : Order) (s : State) (p : Port) → LeftW (gives m t) o s p (by_task t m a o s p)
+task_left KeepDead m a o s p = any_mode m false _ o s p _ _ a _ (dead_left a o s p) (quiet m KeepDead refl)
+task_left SetFull m a o s p = any_mode m false _ o s p _ _ a _ (fulls_left a o s p) (quiet m SetFull refl)
+task_left Tare m a o s p = any_mode m false _ o s p _ _ a _ (tares_left a o s p) (quiet m Tare refl)
+task_left Weigh m a o s p = weighs_left m a o s p (block_size o.argument o.place) (size_tame o.argument o.place)
+task_left Plain m a o s p = any_mode m false _ o s p _ _ a _ (form_left o.form a o s p) (quiet m Plain refl)
+
+permitted_left : (b : Bool) (m : Mode) (a : ℕ) (o : Order) (s : State) (p : Port) (f : Fault) → Tame f → LeftW (gives m (task_of o.form o.name)) o s p (obeys_by m a s p (cond b (Err f) (Ok o)))
+permitted_left true m a o s p f h = unmoved f o s p h
+permitted_left false m a o s p f h = task_left (task_of o.form o.name) m a o s p
+
+broadcast_left : (b : Bool) (a : ℕ) (o : Order) (s : State) (p : Port) (f : Fault) → Tame f → LeftW (weighs_by (task_of o.form o.name)) o s p (obeys_by Broadcast a s p (permitted_by a s (cond b (Err f) (Ok o))))
+broadcast_left true a o s p f h = unmoved f o s p h
+broadcast_left false a o s p f h = permitted_left _ Broadcast a o s p _ (refl, refl)
+
+pub obeys_left : (m : Mode) (a : ℕ) (o : Order) (s : State) (p : Port) → LeftW (gives m (task_of o.form o.name)) o s p (obeys m a o s p)
+unfolding obeys broadcast_of
+obeys_left Selected a o s p = permitted_left _ Selected a o s p _ (refl, refl)
+obeys_left Broadcast a o s p = broadcast_left _ a o s p _ (refl, refl)
