@@ -13,7 +13,8 @@ use Rattle.scale.specs.declared.settings.Settings.{Settings}
 use Rattle.scale.specs.declared.state.State.{State}
 use Rattle.scale.specs.declared.state.Ticket.{Ticket}
 use Rattle.scale.specs.Answers.{answer_bytes}
-use Rattle.scale.specs.Exact.{span, Spanned, SpansStay}
+use Rattle.scale.specs.Bounds.{Spanned}
+use Rattle.scale.specs.Exact.{SpansStay}
 use Rattle.scale.specs.Hearing.{held_answer, obeys, settled, hears}
 use Rattle.scale.specs.Keeping.{OrderKept, RefusalsKeep, NoneRemembered, OnlyRefusalsRemembered, RestartsRestore, Sent, after_all, fills, any_fills, HeldOnce}
 use Rattle.scale.specs.Orders.{task_of}
@@ -53,21 +54,18 @@ restarts_restore Broadcast a place s p = refl
 -- ---- the span
 spans_settled : (b : Bool) (m : Mode) (o : Order) (s : State) (p : Port) (t : State) (q : Port) (r : Result (List ℕ) Fault) → Left b o s p t q r → Spanned s → Spanned (settled m t q r).state
 spans_settled b m o s p t q (Ok x) h k = h.spans k
-spans_settled b m o s p t q (Err f) h k = record {
-  force = subst (λ (x : Settings). pos 0 <ℤ span x) (sym h.force) k.force;
-  stored = subst (λ (x : Settings). pos 0 <ℤ span x) (sym h.stored) k.stored;
-}
+spans_settled b m o s p t q (Err f) h k = (subst (λ (x : Settings). x.dead <ℤ x.full) (sym h.force) k.0, subst (λ (x : Settings). x.dead <ℤ x.full) (sym h.stored) k.1)
 
 spans_later : (m : Mode) (a : ℕ) (h : Result Heard Fault) (s : State) (p : Port) → Spanned s → Spanned (hears m a h s p).state
 unfolding hears
-spans_later m a (Err f) s p k = record { force = k.force; stored = k.stored }
+spans_later m a (Err f) s p k = k
 spans_later m a (Ok Blank) s p k = k
-spans_later Selected a (Ok (Select n)) s p k = record { force = k.force; stored = k.stored }
+spans_later Selected a (Ok (Select n)) s p k = k
 spans_later Broadcast a (Ok (Select n)) s p k = k
 spans_later m a (Ok (Command o)) s p k = spans_settled (gives m (task_of o.form o.name)) m o s p _ _ _ (obeys_left m a o s p) k
 
 pub spans_stay : SpansStay
-spans_stay = record { first = record { force = omega (arith, ints); stored = omega (arith, ints) }; later = spans_later }
+spans_stay = record { first = (omega (arith, ints), omega (arith, ints)); later = spans_later }
 
 -- ---- the held value
 held_settled : (b : Bool) (m : Mode) (o : Order) (s : State) (p : Port) (t : State) (q : Port) (r : Result (List ℕ) Fault) → Left b o s p t q r → b ≡ false → s.held ≡ None → (settled m t q r).state.held ≡ None
@@ -111,6 +109,6 @@ held_once = record {
   gone = gone_held;
   stays = all_stay;
   once = λ a n k xs s p q e.
-    let t = after_all a xs (hears Selected a (Ok (Select n)) s p).state in
-    said_held a k t q ∙ ap (λ (x : Option Ticket). answer_bytes a (held_answer x)) (all_stay a xs (hears Selected a (Ok (Select n)) s p).state e (gone_held a n s p));
+      let t = after_all a xs (hears Selected a (Ok (Select n)) s p).state in
+      said_held a k t q ∙ ap (λ (x : Option Ticket). answer_bytes a (held_answer x)) (all_stay a xs (hears Selected a (Ok (Select n)) s p).state e (gone_held a n s p));
 }

@@ -31,7 +31,7 @@ use Rattle.scale.specs.Calibrating.{Acted, load_given, given_port, load_of, keep
 use Rattle.scale.specs.Choices.{readings_of, averaging_numbered, step_valued, display_numbered}
 use Rattle.scale.specs.Entering.{byte_of, by_byte, renominal, entered}
 use Rattle.scale.specs.Entries.{Said, put_in_force, set_by, opens, unlock_by, relock_by, default_at, default_by, enters_by}
-use Rattle.scale.specs.Exact.{span, Spanned}
+use Rattle.scale.specs.Bounds.{Spanned}
 use Rattle.scale.specs.Hearing.{Step, voiced, weighs, by_form, by_task, permitted_by, obeys_by, obeys}
 use Rattle.scale.specs.Keeping.{numbered, opened_left, port_left, weighs_by}
 use Rattle.scale.specs.Measuring.{dropped, measurement, measures, measured_port}
@@ -148,7 +148,7 @@ abbrev LeftA : Order → State → Port → Acted → Type 0
 LeftA o s p x = Left false o s p x.state x.port x.reply
 
 keeps_left : (o : Order) (s : State) (p q : Port) (r : Result ℤ Fault) → AllTame r → Back p q r → LeftA o s p (keeps s q r)
-keeps_left o s p q (Ok z) h k = as_before false s _ refl refl (λ x. record { force = x.force; stored = x.stored })
+keeps_left o s p q (Ok z) h k = as_before false s _ refl refl (λ x. x)
 keeps_left o s p q (Err f) h k = moved f o s p q h k
 
 pub dead_left : (a : ℕ) (o : Order) (s : State) (p : Port) → LeftA o s p (dead_loads a o s p)
@@ -156,14 +156,10 @@ dead_left a o s p =
     cond_both (ltb 0 s.force.nominal) _ _ (LeftA o s p) (λ _. unmoved _ o s p (refl, refl))
     (λ _. keeps_left o s p _ _ (given_tame a s.force.averaging o.argument o.place p) (given_back a s.force.averaging o.argument o.place p))
 
--- a full load above the dead load makes a span above 0
-wide : (d z : ℤ) → d <ℤ z → pos 0 <ℤ (z -ℤ d)
-wide d z h = omega (arith, ints)
-
 calibrates_left : (a : ℕ) (o : Order) (s : State) (p : Port) (d : ℤ) (r : Result ℤ Fault) → AllTame r → Back p (given_port s.force.averaging o.argument p) r → LeftA o s p (calibrates a s (given_port s.force.averaging o.argument p) d r)
 calibrates_left a o s p d (Err f) h k = moved f o s p _ h k
 calibrates_left a o s p d (Ok z) h k =
-    cond_both (lt_z d z) _ _ (LeftA o s p) (λ e. as_before false s _ refl refl (λ x. let w = wide d z (omega (arith, ints, e)) in record { force = w; stored = w }))
+    cond_both (lt_z d z) _ _ (LeftA o s p) (λ e. as_before false s _ refl refl (λ x. let w : d <ℤ z = omega (arith, ints, e) in (w, w)))
     (λ _. record { force = refl; stored = refl; pending = refl; held = refl; memory = refl; opened = refl; port = refl })
 
 full_left : (a : ℕ) (o : Order) (s : State) (p : Port) (x : Option ℤ) → LeftA o s p (full_over a o s p x)
@@ -174,9 +170,8 @@ pub fulls_left : (a : ℕ) (o : Order) (s : State) (p : Port) → LeftA o s p (f
 fulls_left a o s p = cond_both (ltb 0 s.force.nominal) _ _ (LeftA o s p) (λ _. unmoved _ o s p (refl, refl)) (λ _. full_left a o s p s.pending)
 
 tared_left : (o : Order) (s : State) (p q : Port) (r : Result Measurement Fault) → AllTame r → Back p q r → LeftA o s p (tared s q r)
-tared_left o s p q (Ok m) h k = as_before false s _ refl refl (λ x. record { force = x.force; stored = x.stored })
+tared_left o s p q (Ok m) h k = as_before false s _ refl refl (λ x. x)
 tared_left o s p q (Err f) h k = moved f o s p q h k
 
 pub tares_left : (a : ℕ) (o : Order) (s : State) (p : Port) → LeftA o s p (tares a s p)
 tares_left a o s p = tared_left o s p _ _ (measures_tame a s.force.averaging p) (measured_back a s.force.averaging p)
-

@@ -31,7 +31,7 @@ use Rattle.scale.specs.Calibrating.{Acted, load_given, given_port, load_of, keep
 use Rattle.scale.specs.Choices.{readings_of, averaging_numbered, step_valued, display_numbered}
 use Rattle.scale.specs.Entering.{byte_of, by_byte, renominal, entered}
 use Rattle.scale.specs.Entries.{Said, put_in_force, set_by, opens, unlock_by, relock_by, default_at, default_by, enters_by}
-use Rattle.scale.specs.Exact.{span, Spanned}
+use Rattle.scale.specs.Bounds.{Spanned}
 use Rattle.scale.proofs.Left.{Kept, Went, Left, Tame, AllTame, unmoved, as_before, number_tame, text_tame, size_tame, dead_left, fulls_left, tares_left}
 use Rattle.scale.specs.Hearing.{Step, voiced, weighs, by_form, by_task, permitted_by, obeys_by, obeys}
 use Rattle.scale.specs.Keeping.{numbered, opened_left, port_left, weighs_by}
@@ -44,24 +44,27 @@ use Rattle.scale.specs.Settings.{with_format, with_averaging, with_nominal, with
 abbrev LeftS : Order → State → Port → Said → Type 0
 LeftS o s p x = Left false o s p x.state p x.reply
 
--- a setting that is entered leaves the span
-abbrev SameSpan : Settings → Option Settings → Type 0
-SameSpan s None = Unit {0}
-SameSpan s (Some x) = span x ≡ span s
+-- a setting that is entered leaves dead load and full load
+abbrev both_loads : Settings → ℤ × ℤ
+both_loads s = (s.dead, s.full)
 
-map_same : {A : Type 0} (s : Settings) (g : A → Settings) → ((x : A) → span (g x) ≡ span s) → (o : Option A) → SameSpan s (option_map g o)
+abbrev SameLoads : Settings → Option Settings → Type 0
+SameLoads s None = Unit {0}
+SameLoads s (Some x) = both_loads x ≡ both_loads s
+
+map_same : {A : Type 0} (s : Settings) (g : A → Settings) → ((x : A) → both_loads (g x) ≡ both_loads s) → (o : Option A) → SameLoads s (option_map g o)
 map_same s g h None = tt
 map_same s g h (Some x) = h x
 
-byte_same : (s : Settings) (f : ℕ → Option Settings) → ((b : ℕ) → SameSpan s (f b)) → (b : Option ℕ) → SameSpan s (by_byte f b)
+byte_same : (s : Settings) (f : ℕ → Option Settings) → ((b : ℕ) → SameLoads s (f b)) → (b : Option ℕ) → SameLoads s (by_byte f b)
 byte_same s f h None = tt
 byte_same s f h (Some b) = h b
 
-nominal_same : (s : Settings) (n : ℤ) → SameSpan s (renominal s n)
+nominal_same : (s : Settings) (n : ℤ) → SameLoads s (renominal s n)
 nominal_same s (pos n) = refl
 nominal_same s (negsuc n) = tt
 
-entered_same : (s : Settings) (c : Mnemonic) (n : ℤ) → SameSpan s (entered s c n)
+entered_same : (s : Settings) (c : Mnemonic) (n : ℤ) → SameLoads s (entered s c n)
 entered_same s Cof n = byte_same s _ (λ b. map_same s (with_format s) (λ x. refl) (numbered_format b)) (byte_of n)
 entered_same s Icr n = byte_same s _ (λ b. map_same s (with_averaging s) (λ x. refl) (averaging_numbered b)) (byte_of n)
 entered_same s Nov n = nominal_same s n
@@ -78,16 +81,16 @@ entered_same s Tdd n = tt
 entered_same s Res n = tt
 entered_same s Esr n = tt
 
-put_left : (o : Order) (s : State) (p : Port) (place : ℕ) (x : Option Settings) → SameSpan s.force x → LeftS o s p (put_in_force s place x)
+put_left : (o : Order) (s : State) (p : Port) (place : ℕ) (x : Option Settings) → SameLoads s.force x → LeftS o s p (put_in_force s place x)
 put_left o s p place None h = unmoved _ o s p (refl, refl)
-put_left o s p place (Some x) h = as_before false s _ refl refl (λ k. record { force = subst (λ (z : ℤ). pos 0 <ℤ z) (sym h) k.force; stored = k.stored })
+put_left o s p place (Some x) h = as_before false s _ refl refl (λ k. (subst (λ (l : ℤ × ℤ). l.0 <ℤ l.1) (sym h) k.0, k.1))
 
 set_left : (o : Order) (s : State) (p : Port) (r : Result ℤ Fault) → AllTame r → LeftS o s p (set_by o s r)
 set_left o s p (Err f) h = unmoved f o s p h
 set_left o s p (Ok n) h = put_left o s p o.place (entered s.force o.name n) (entered_same s.force o.name n)
 
 opens_left : (a : ℕ) (o : Order) (s : State) (p : Port) (b : Bool) → LeftS o s p (opens a s b)
-opens_left a o s p true = as_before false s _ refl refl (λ x. record { force = x.force; stored = x.stored })
+opens_left a o s p true = as_before false s _ refl refl (λ x. x)
 opens_left a o s p false = record { force = refl; stored = refl; pending = refl; held = refl; memory = refl; opened = refl; port = refl }
 
 unlock_left : (a : ℕ) (o : Order) (s : State) (p : Port) (r : Result a_text Fault) → AllTame r → LeftS o s p (unlock_by a s r)
@@ -96,12 +99,12 @@ unlock_left a o s p (Ok t) h = opens_left a o s p (same_text t s.force.password)
 
 relock_left : (o : Order) (s : State) (p : Port) (r : Result a_text Fault) → AllTame r → LeftS o s p (relock_by s r)
 relock_left o s p (Err f) h = unmoved f o s p h
-relock_left o s p (Ok t) h = as_before false s _ refl refl (λ x. record { force = x.force; stored = x.stored })
+relock_left o s p (Ok t) h = as_before false s _ refl refl (λ x. x)
 
 default_left : (o : Order) (place : ℕ) (s : State) (p : Port) (n : ℤ) → LeftS o s p (default_at place s n)
 default_left o place s p (pos n) =
-    cond_both (eqb n 0) _ _ (LeftS o s p) (λ _. as_before false s _ refl refl (λ x. record { force = omega (arith, ints); stored = omega (arith, ints) }))
-    (λ _. cond_both (eqb n 1) _ _ (LeftS o s p) (λ _. as_before false s _ refl refl (λ x. record { force = x.force; stored = x.force })) (λ _. unmoved _ o s p (refl, refl)))
+    cond_both (eqb n 0) _ _ (LeftS o s p) (λ _. as_before false s _ refl refl (λ x. (omega (arith, ints), omega (arith, ints))))
+    (λ _. cond_both (eqb n 1) _ _ (LeftS o s p) (λ _. as_before false s _ refl refl (λ x. (x.0, x.0))) (λ _. unmoved _ o s p (refl, refl)))
 default_left o place s p (negsuc n) = unmoved _ o s p (refl, refl)
 
 defaults_left : (o : Order) (place : ℕ) (s : State) (p : Port) (r : Result ℤ Fault) → AllTame r → LeftS o s p (default_by place s r)
@@ -117,7 +120,7 @@ enters_left Tas a o s p = set_left o s p (number_in o.argument o.place) (number_
 enters_left Spw a o s p = unlock_left a o s p (text_in o.argument o.place) (text_tame o.argument o.place)
 enters_left Dpw a o s p = relock_left o s p (text_in o.argument o.place) (text_tame o.argument o.place)
 enters_left Tdd a o s p = defaults_left o o.place s p (number_in o.argument o.place) (number_tame o.argument o.place)
-enters_left Res a o s p = record { memory = inr refl; held = λ _. inr refl; spans = λ x. record { force = x.stored; stored = x.stored } }
+enters_left Res a o s p = record { memory = inr refl; held = λ _. inr refl; spans = λ x. (x.1, x.1) }
 enters_left Ldw a o s p = unmoved _ o s p (refl, refl)
 enters_left Lwt a o s p = unmoved _ o s p (refl, refl)
 enters_left Tar a o s p = unmoved _ o s p (refl, refl)
@@ -128,7 +131,7 @@ enters_left Esr a o s p = unmoved _ o s p (refl, refl)
 cleared_left : (s : State) (x : Answer) → Went false s (clears s x)
 cleared_left s Silence = as_before false s s refl refl (λ x. x)
 cleared_left s (Line l) = as_before false s s refl refl (λ x. x)
-cleared_left s (Memory m) = record { memory = inr refl; held = λ _. inl refl; spans = λ x. record { force = x.force; stored = x.stored } }
+cleared_left s (Memory m) = record { memory = inr refl; held = λ _. inl refl; spans = λ x. x }
 cleared_left s (Value t) = as_before false s s refl refl (λ x. x)
 
 asked_left : (o : Order) (s : State) (p : Port) (x : Option Answer) → LeftS o s p (asked_for o.place s x)
@@ -148,7 +151,7 @@ block_left o s p q true bytes f h = as_before false s s refl refl (λ x. x)
 block_left o s p q false bytes f h = unmoved f o s p h
 
 hold_left : (o : Order) (s : State) (p q : Port) (b : Bool) (x : Measurement) (f : Fault) → Tame f → Left true o s p (holding s (cond b (Ok x) (Err f))) (cond b q p) (refused_or (cond b (Ok x) (Err f)))
-hold_left o s p q true x f h = record { memory = inl refl; held = λ e. absurd (grind arith); spans = λ k. record { force = k.force; stored = k.stored } }
+hold_left o s p q true x f h = record { memory = inl refl; held = λ e. absurd (grind arith); spans = λ k. k }
 hold_left o s p q false x f h = unmoved f o s p h
 
 -- whether an order of a task may leave a value to hand out

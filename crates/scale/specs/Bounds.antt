@@ -1,5 +1,5 @@
--- The bounds of the loads that a scale remembers, in 1/16,000 digit: no arithmetic on them leaves 64 bits.
-use Rattle.std.specs.Prelude.{◌^◌, ◌≤◌, ℤ, pos, Some, None, Option, unsigned_abs}
+-- The bounds of the loads that a scale remembers, in 1/16,000 digit: no arithmetic on them leaves 64 bits, and a span is above 0.
+use Rattle.std.specs.Prelude.{◌^◌, ◌≤◌, ℤ, pos, Some, None, Option, ◌<ℤ◌, unsigned_abs}
 use Rattle.scale.specs.declared.settings.Settings.{Settings}
 use Rattle.scale.specs.declared.state.State.{State}
 
@@ -18,3 +18,7 @@ load_waiting (Some z) = z
 
 abbrev pub Bounded : State → Type 0
 Bounded s = Small s.force × Small s.stored × Light (load_waiting s.pending)
+
+-- the full load is above the dead load, in force and stored
+abbrev pub Spanned : State → Type 0
+Spanned s = (s.force.dead <ℤ s.force.full) × (s.stored.dead <ℤ s.stored.full)

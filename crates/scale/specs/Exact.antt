@@ -1,5 +1,5 @@
 -- The exact weight: the span that stays above 0, and what a measured value shows.
-use Rattle.std.specs.Prelude.{◌≡◌, ℕ, ◌≤◌, Bool, List, [], ◌∷◌, length, drop, None, Some, Ok, Result, ℤ, pos, ◌-ℤ◌, ◌*ℤ◌, ◌<ℤ◌}
+use Rattle.std.specs.Prelude.{◌≡◌, ℕ, ◌≤◌, Bool, List, [], ◌∷◌, length, drop, None, Some, Ok, Result, ℤ, ◌-ℤ◌, ◌*ℤ◌}
 use Rattle.fault.specs.declared.faults.Fault.{Fault}
 use Rattle.bank.specs.declared.reading.Reading.{Reading}
 use Rattle.bank.specs.Ports.{Port}
@@ -18,6 +18,7 @@ use Rattle.scale.specs.declared.settings.Settings.{Settings}
 use Rattle.scale.specs.declared.state.State.{State}
 use Rattle.scale.specs.declared.state.Ticket.{Ticket}
 use Rattle.scale.specs.Blocks.{readings_for}
+use Rattle.scale.specs.Bounds.{Spanned}
 use Rattle.scale.specs.Choices.{readings_of, weight_of, step_value}
 use Rattle.scale.specs.Hearing.{Outcome, hears}
 use Rattle.scale.specs.Keeping.{query}
@@ -30,12 +31,7 @@ use Rattle.scale.specs.Weighing.{of_both, fits_in}
 abbrev pub span : Settings → ℤ
 span s = s.full -ℤ s.dead
 
--- the spans in force and stored are above 0
-pub record Spanned (s : State) : Type 0 where
-  pub force : pos 0 <ℤ span s.force
-  pub stored : pos 0 <ℤ span s.stored
-
--- they are in a new scale, and stay so whatever it hears
+-- the spans in force and stored are above 0 in a new scale, and stay so whatever it hears
 pub record SpansStay : Type 0 where
   pub first : Spanned fresh
   pub later : (m : Mode) (a : ℕ) (h : Result Heard Fault) (s : State) (p : Port) → Spanned s → Spanned (hears m a h s p).state
@@ -84,6 +80,6 @@ pub record HeldExact (s : State) (p : Port) (x : Outcome) : Type 0 where
 -- where readings enough wait, the selected scale answers as many exact values as it is asked for; in a broadcast each holds one
 pub record WeighingsExact : Type 0 where
   pub answered : (a k place : ℕ) (x : Argument) (s : State) (p : Port) → Spanned s → block_size x place ≡ Ok k → readings_for s.force k ≤ length p.waiting →
-    Answered a k s p (hears Selected a (Ok (Command (query Msv x place))) s p)
+      Answered a k s p (hears Selected a (Ok (Command (query Msv x place))) s p)
   pub held : (a place : ℕ) (s : State) (p : Port) → Spanned s → readings_of s.force.averaging ≤ length p.waiting →
-    HeldExact s p (hears Broadcast a (Ok (Command (query Msv Absent place))) s p)
+      HeldExact s p (hears Broadcast a (Ok (Command (query Msv Absent place))) s p)

@@ -131,4 +131,4 @@ pub record HeldOnce : Type 0 where
   pub gone : (a n : ℕ) (s : State) (p : Port) → (hears Selected a (Ok (Select n)) s p).state.held ≡ None
   pub stays : (a : ℕ) (xs : List Sent) (s : State) → any_fills xs ≡ false → s.held ≡ None → (after_all a xs s).held ≡ None
   pub once : (a n k : ℕ) (xs : List Sent) (s : State) (p q : Port) → any_fills xs ≡ false →
-    (hears Selected a (Ok (Select k)) (after_all a xs (hears Selected a (Ok (Select n)) s p).state) q).says ≡ []
+      (hears Selected a (Ok (Select k)) (after_all a xs (hears Selected a (Ok (Select n)) s p).state) q).says ≡ []
