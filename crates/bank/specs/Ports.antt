@@ -62,21 +62,15 @@ front (x ∷ xs) = Some x
 abbrev pub drawing : Port → Drawn
 drawing a = record { gauges = a.gauges; reading = front a.waiting }
 
--- what counting gauges, counting readings, counting both, taking and drawing answer
+-- what counting gauges, counting readings and taking answer
 abbrev pub gauges_at : (ℕ → Port) → ℕ → Result ℕ Fault
 gauges_at m p = ranged p (Ok (m p).gauges)
 
 abbrev pub waiting_at : (ℕ → Port) → ℕ → Result ℕ Fault
 waiting_at m p = ranged p (Ok (length (m p).waiting))
 
-abbrev pub counts_at : (ℕ → Port) → ℕ → Result Counts Fault
-counts_at m p = ranged p (Ok (counts (m p)))
-
 abbrev pub first_at : (ℕ → Port) → ℕ → Result Reading Fault
 first_at m p = ranged p (first p (m p).waiting)
-
-abbrev pub drawn_at : (ℕ → Port) → ℕ → Result Drawn Fault
-drawn_at m p = ranged p (Ok (drawing (m p)))
 
 -- the lists of the ports, less the first of that of port p
 abbrev pub less_at : {A : Type 0} → (ℕ → List A) → ℕ → ℕ → List A

@@ -2,7 +2,7 @@
 ghost use Rattle.std.specs.Prelude.{◌≡◌, ℕ, Ok};
 ghost use Rattle.bank.specs.Addresses.{number_of};
 ghost use Rattle.bank.specs.Fitting.{mapped_ok};
-ghost use Rattle.bank.specs.Ports.{Port, Sound, ranged, gauges_at, waiting_at, counts_at, first_at, drawn_at, rest_at};
+ghost use Rattle.bank.specs.Ports.{Port, Sound, ranged, gauges_at, waiting_at, counts, first_at, drawing, rest_at};
 
 use crate::{Address, Counts, Drawn, Reading};
 use fault::{Cause, Fault};
@@ -34,21 +34,21 @@ pub trait GaugeBank {
         ensures after { shows self.new ≡ rest_at (shows self.old) port };
 
     // Both counts of a port in one call.
-    fn tally(&self, port: u8) -> Result<Counts, Fault>
-        ensures { result ≡ counts_at (shows self.now) port }
+    fn tally(&self, port: Address) -> Counts
+        ensures { result ≡ counts (shows self.now port.number) }
     {
-        let gauges = u16::from(self.gauges(port)?);
-        let waiting = self.waiting(port)?;
-        Ok(Counts { gauges, waiting })
+        let gauges = self.gauges(port.number).map_or(0, u16::from);
+        let waiting = self.waiting(port.number).unwrap_or(0);
+        Counts { gauges, waiting }
     }
 
     // Takes the first reading of a port, if one waits, and tells its gauge count: one call for a port that was searched before.
-    fn draw(&mut self, port: u8) -> Result<Drawn, Fault>
-        ensures answer { result ≡ drawn_at (shows self.old) port }
-        ensures after { shows self.new ≡ rest_at (shows self.old) port }
+    fn draw(&mut self, port: Address) -> Drawn
+        ensures answer { result ≡ drawing (shows self.old port.number) }
+        ensures after { shows self.new ≡ rest_at (shows self.old) port.number }
     {
-        let gauges = u16::from(self.gauges(port)?);
-        let reading = self.take(port).ok();
-        Ok(Drawn { gauges, reading })
+        let gauges = self.gauges(port.number).map_or(0, u16::from);
+        let reading = self.take(port.number).ok();
+        Drawn { gauges, reading }
     }
 }

@@ -5,7 +5,7 @@ ghost use Rattle.bank.specs.Ports.{front, less_at};
 ghost use Rattle.bank.specs.Fitting.{factor_at, fitted_sound};
 
 use crate::fitting::Fitting;
-use crate::{Address, GaugeBank, Reading, checked_port};
+use crate::{Address, Counts, Drawn, GaugeBank, Reading, checked_port};
 use fault::{Cause, Fault};
 
 // Where the digits of gauges come from: at each port a list of digits waits.
@@ -79,5 +79,31 @@ impl<S: Source> GaugeBank for Gauges<S> {
         let factor = self.fitting.at(place).ok_or(empty)?;
         let digits = self.source.next(place).ok_or(empty)?;
         Ok(factor.reading(digits))
+    }
+
+    fn tally(&self, port: Address) -> Counts {
+        match self.fitting.at(port) {
+            None => Counts {
+                gauges: 0,
+                waiting: 0,
+            },
+            Some(_) => Counts {
+                gauges: 1,
+                waiting: self.source.left(port),
+            },
+        }
+    }
+
+    fn draw(&mut self, port: Address) -> Drawn {
+        match self.fitting.at(port) {
+            None => Drawn {
+                gauges: 0,
+                reading: None,
+            },
+            Some(factor) => Drawn {
+                gauges: 1,
+                reading: self.source.next(port).map(|digits| factor.reading(digits)),
+            },
+        }
     }
 }
