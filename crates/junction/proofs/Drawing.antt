@@ -1,15 +1,15 @@
 -- What one more feeding port adds when readings are taken.
 use Rattle.std.proofs.Common.{◌≡◌, ℕ, zero, suc, ◌+◌, ◌<◌, ◌≤◌, Bool, true, false, cond, eqb, List, [], ◌∷◌, sym, refl, ap, ◌∙◌, subst, arith}
+use Rattle.std.proofs.lemmas.Bool.{eq-eqb}
 use Rattle.std.proofs.lemmas.Bool.Decides.{nat_tests}
 use Rattle.bank.specs.declared.counts.Drawn.{Drawn}
 use Rattle.bank.specs.declared.reading.Reading.{Reading}
-use Rattle.bank.specs.Ports.{Port, Sound, Small, none, front, drawing, rest_at}
-use Rattle.junction.specs.declared.feeds.Feeds.{Feeds}
-use Rattle.junction.specs.Feeding.{fed}
+use Rattle.bank.specs.Ports.{Port, Sound, Small, front, drawing, rest_at}
 use Rattle.junction.specs.Gather.{paired, lines, join, part, gather, drawn}
 use Rattle.junction.specs.Counting.{both_of, first_of, drawn_together, Carried}
 use Rattle.junction.specs.Limits.{part_fair, part_few, gather_fair}
 use Rattle.junction.proofs.Parts.{gather_next, gather_few}
+use Rattle.junction.proofs.Walks.{part_here}
 
 -- ---- the first reading of a gathered port
 front_paired : (xs ys : List Reading) → front (paired xs ys) ≡ both_of (front xs) (front ys)
@@ -48,10 +48,6 @@ module _ (f : ℕ → ℕ) (m : ℕ → Port) (p : ℕ) where
   pub drawn_none : m ≡ drawn f m p 0
   drawn_none = λ i. λ k. sym (untouched 0 k (omega arith)) i
 
-  -- the port n itself is as it was
-  part_drawn : (s : ℕ → Port) (n : ℕ) → s ≡ drawn f m p n → part f s p n ≡ part f m p n
-  part_drawn s n e = ap (λ (a : Port). cond (eqb (f n) p) a none) ((λ i. e i n) ∙ untouched n n (omega arith))
-
   turned : (n k : ℕ) → n ≤ 31 → cond (eqb (f n) p) (rest_at (drawn f m p n) n k) (drawn f m p n k) ≡ drawn f m p (n + 1) k
   turned n k h = grind (arith, nat_tests)
 
@@ -62,6 +58,10 @@ module _ (f : ℕ → ℕ) (m : ℕ → Port) (p : ℕ) where
   pub drawn_next : (s t : ℕ → Port) (n : ℕ) → n < 32 → s ≡ drawn f m p n → t ≡ cond (eqb (f n) p) (rest_at s n) s → t ≡ drawn f m p (n + 1)
   drawn_next s t n h e d = d ∙ (λ i. cond (eqb (f n) p) (rest_at (e i) n) (e i)) ∙ (λ i. λ k. (cond_at (eqb (f n) p) (rest_at (drawn f m p n) n) (drawn f m p n) k ∙ turned n k (omega arith)) i)
 
--- what was drawn at the port n, where the feeding map and the ports from n on are as they were
-pub part_told : (fs gs : Feeds) (m s : ℕ → Port) (p n : ℕ) (y : Drawn) → gs ≡ fs → s ≡ drawn (fed fs) m p n → y ≡ drawing (part (fed gs) s p n) → y ≡ drawing (part (fed fs) m p n)
-part_told fs gs m s p n y same e d = d ∙ ap (λ (t : Feeds). drawing (part (fed t) s p n)) same ∙ ap drawing (part_drawn (fed fs) m p s n e)
+  -- the port n feeds p, and is drawn from
+  pub drawn_here : (s t : ℕ → Port) (n : ℕ) → n < 32 → f n ≡ p → s ≡ drawn f m p n → t ≡ rest_at s n → t ≡ drawn f m p (n + 1)
+  drawn_here s t n h here e d = drawn_next s t n h e (d ∙ ap (λ (b : Bool). cond b (rest_at s n) s) (sym (eq-eqb (f n) p here)))
+
+  -- what was drawn at the port n, where the ports from n on are as they were
+  pub part_told : (s : ℕ → Port) (n : ℕ) (y : Drawn) → f n ≡ p → s ≡ drawn f m p n → y ≡ drawing (s n) → y ≡ drawing (part f m p n)
+  part_told s n y here e d = d ∙ ap drawing ((λ i. e i n) ∙ untouched n n (omega arith) ∙ sym (part_here f p m n here))

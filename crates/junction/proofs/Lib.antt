@@ -6,5 +6,7 @@ mod Joining
 mod Regroup
 mod Turns
 mod Once
+mod Walks
+mod Chaining
 pub mod Rejoined
 pub mod Piles

@@ -1,17 +1,21 @@
 -- What taking at a port of a box answers and leaves.
-use Rattle.std.proofs.Common.{◌≡◌, ℕ, zero, suc, ◌+◌, ◌<◌, ◌≤◌, Bool, true, false, cond, eqb, leb, ◌≢◌, List, [], ◌∷◌, length, Some, None, Err, Option, sym, refl, ap, ◌∙◌, subst, ⊎_elim, arith}
+use Rattle.std.proofs.Common.{◌≡◌, ℕ, zero, suc, ◌+◌, ◌-◌, ◌<◌, ◌≤◌, Bool, true, false, cond, eqb, leb, ◌≢◌, List, [], ◌∷◌, length, get_or, set, Some, None, Err, Option, sym, refl, ap, ◌∙◌, subst, ⊎_elim, arith}
 use Rattle.std.specs.Option.{is_some}
 use Rattle.std.proofs.lemmas.Bool.{cases_eq, false≢true}
 use Rattle.std.proofs.lemmas.Bool.Decides.{nat_tests}
 use Rattle.fault.specs.declared.faults.Fault.{Fault}
 use Rattle.fault.specs.declared.causes.Cause.TheVariants.{TooFewReadings}
 use Rattle.fault.specs.Faults.{refusal}
+use Rattle.std.proofs.lemmas.List.{get_or-set_other, get_or-set_same}
+use Rattle.bank.specs.declared.counts.Counts.{Counts}
 use Rattle.bank.specs.declared.reading.Reading.{Reading}
-use Rattle.bank.specs.Ports.{Port, Sound, none, rest, popped, first_at, rest_at}
+use Rattle.bank.specs.Ports.{Port, Sound, none, counts, rest, popped, first_at, rest_at}
 use Rattle.bank.proofs.Empty.{empty_first}
 use Rattle.junction.specs.declared.feeds.Feeds.{Feeds}
 use Rattle.junction.specs.Feeding.{fed}
 use Rattle.junction.specs.Gather.{paired, lines, join, part, gather, capped, boxed, dry_from, drawn}
+use Rattle.junction.specs.Counting.{one_fewer}
+use Rattle.junction.specs.Tallies.{Tallied}
 use Rattle.junction.specs.Limits.{boxed_sound}
 use Rattle.junction.proofs.Parts.{some_dry}
 
@@ -76,6 +80,23 @@ box_drawn fs gs m k p h same was = ap (λ (x : Feeds). boxed x k) same ∙ (λ i
     (λ (e : r ≡ p). subst (λ (x : ℕ). boxed fs k x ≡ rest_at (boxed fs m) p x) (sym e) (ap capped (gather_popped (fed fs) m k p was 32 (omega arith)) ∙ popped_capped (gather (fed fs) m p 32) ∙ sym (here (boxed fs m) p h)))
     (λ (e : r ≢ p). ap capped (gather_kept (fed fs) m k p was r e 32 (omega arith)) ∙ sym (elsewhere (boxed fs m) p r e))
     (cases_eq r p) i)
+
+-- the counts of the ports, once a reading is taken at port p: one fewer there
+fewer_popped : (a : Port) → one_fewer (counts a) ≡ counts (popped a)
+fewer_popped a = λ i. record { gauges = a.gauges; waiting = length_rest a.waiting i } where
+  length_rest : (xs : List Reading) → length xs - 1 ≡ length (rest xs)
+  length_rest [] = refl
+  length_rest (x ∷ xs) = omega arith
+
+pub tallied_after : (before after : ℕ → Port) (all : List Counts) (j k p : ℕ) (c : Counts) → length all ≡ 32 → p ≤ 31 → after ≡ rest_at before p → j ≡ p → k ≡ p → c ≡ one_fewer (get_or all j (counts none)) → Tallied before all → Tallied after (set all k c)
+tallied_after before after all j k p c long low was is there fewer old q h =
+    ap (λ (x : ℕ). get_or (set all x c) q (counts none)) there
+    ∙ ⊎_elim
+    (λ (e : q ≡ p). subst (λ (x : ℕ). get_or (set all p c) x (counts none) ≡ counts (rest_at before p x)) (sym e)
+    (get_or-set_same all p c (counts none) (omega arith) ∙ fewer ∙ ap (λ (x : ℕ). one_fewer (get_or all x (counts none))) is ∙ ap one_fewer (old p (omega arith)) ∙ fewer_popped (before p) ∙ ap counts (sym (here before p low))))
+    (λ (e : q ≢ p). get_or-set_other all p q c (counts none) e ∙ old q h ∙ ap counts (sym (elsewhere before p q e)))
+    (cases_eq q p)
+    ∙ (λ i. counts (sym was i q))
 
 -- ---- what is answered
 module _ (fs : Feeds) (m : ℕ → Port) (p : ℕ) where

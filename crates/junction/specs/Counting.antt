@@ -1,5 +1,5 @@
 -- What a box works out of the ports that feed one port: counts, and readings drawn.
-use Rattle.std.specs.Prelude.{ℕ, zero, suc, ◌+◌, ◌*◌, ◌≤◌, Bool, ◌&&◌, Some, None, Option, ◌==◌, nat_lt, unsigned_abs}
+use Rattle.std.specs.Prelude.{ℕ, zero, suc, ◌+◌, ◌-◌, ◌*◌, ◌≤◌, Bool, ◌&&◌, Some, None, Option, ◌==◌, nat_lt, unsigned_abs}
 use Rattle.bank.specs.declared.counts.Counts.{Counts}
 use Rattle.bank.specs.declared.counts.Drawn.{Drawn}
 use Rattle.bank.specs.declared.reading.Reading.{Reading}
@@ -9,6 +9,10 @@ use Rattle.junction.specs.Gather.{both, shorter}
 -- the counts of two ports as one
 abbrev pub tallied : Counts → Counts → Counts
 tallied a b = record { gauges = a.gauges + b.gauges; waiting = shorter a.gauges a.waiting b.gauges b.waiting }
+
+-- the counts of a port after one reading is taken, if one waits
+abbrev pub one_fewer : Counts → Counts
+one_fewer a = record { gauges = a.gauges; waiting = a.waiting - 1 }
 
 -- whether a port so counted is dry
 abbrev pub dried : Counts → Bool

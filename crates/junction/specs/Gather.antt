@@ -85,7 +85,3 @@ left_below fs m p = cond ((boxed fs m p).gauges == 0) m (unless_dry (dry_from (f
 
 abbrev pub below_after : Feeds → (ℕ → Port) → ℕ → ℕ → Port
 below_after fs m p = cond (nat_le p 31) (left_below fs m p) m
-
--- the ports below after drawing at the port p of a box: one reading is gone from each port that feeds p
-abbrev pub below_drawn : Feeds → (ℕ → Port) → ℕ → ℕ → Port
-below_drawn fs m p = cond (nat_le p 31) (drawn (fed fs) m p 32) m

@@ -1,6 +1,6 @@
 // Two ports as one: their counts, and what they give.
 ghost use Rattle.std.specs.Prelude.{◌≡◌, ◌+◌, ◌<◌};
-ghost use Rattle.junction.specs.Counting.{tallied, dried, both_of, drawn_together, Carried};
+ghost use Rattle.junction.specs.Counting.{tallied, one_fewer, dried, both_of, drawn_together, Carried};
 
 use bank::{Counts, Drawn, Reading};
 
@@ -47,6 +47,16 @@ pub(crate) fn joined_counts(one: Counts, other: Counts) -> Counts
     Counts {
         gauges: one.gauges + other.gauges,
         waiting,
+    }
+}
+
+// The counts of a port after one reading is taken, if one waits.
+pub(crate) fn one_fewer(counted: Counts) -> Counts
+    ensures { result ≡ one_fewer counted }
+{
+    Counts {
+        gauges: counted.gauges,
+        waiting: counted.waiting.saturating_sub(1),
     }
 }
 

@@ -1,52 +1,62 @@
 // A junction box: it stands on any bank and is a bank again.
-ghost use Rattle.std.specs.Prelude.{◌≡◌};
-ghost use Rattle.bank.specs.Ports.{counts, drawing, first_at, drawn_at, rest_at};
+ghost use Rattle.std.specs.Prelude.{◌≡◌, length};
+ghost use Rattle.bank.specs.Ports.{counts, drawing, first_at, rest_at};
 ghost use Rattle.junction.specs.Feeding.{fed, own};
-ghost use Rattle.junction.specs.Gather.{boxed, drawn, left_below, below_after, below_drawn};
+ghost use Rattle.junction.specs.Gather.{boxed, drawn, left_below, below_after};
+ghost use Rattle.junction.specs.Tallies.{Tallied};
 ghost use Rattle.junction.specs.Limits.{boxed_sound};
 ghost use Rattle.junction.specs.Joins.{joining, rejoined};
 
 mod gathering;
 
-use crate::as_one::{UNCOUNTED, UNDRAWN};
+use crate::as_one::{UNDRAWN, one_fewer};
 use crate::feeds::Feeds;
 use bank::{Address, Counts, Drawn, GaugeBank, Reading, checked_port};
 use fault::{Cause, Fault};
+use gathering::{draw_fed, dry_port, fed_counts, tallied};
 
 // The most gauges that may feed one port.
 const MOST: u16 = 8;
 
-// A bank, and which port above each of its ports feeds.
+// A bank, and which port above each of its ports feeds. The counts of each port above are kept, since nothing but the box's own draws alters them.
 #[derive(Drop)]
-pub struct JunctionBox<B> {
+pub struct JunctionBox<B: GaugeBank> {
     below: B,
     feeds: Feeds,
+    tallies: [Counts; 32],
+    ghost long: { length tallies ≡ 32 },
+    ghost each: { Tallied (boxed feeds (B.shows below)) tallies },
 }
 
 impl<B: GaugeBank> JunctionBox<B> {
     // A box on a bank, in which each port below feeds the port above of its own number.
     pub fn new(below: B) -> Self
-        ensures { result ≡ record { below = below; feeds = own } }
+        ensures bank { result.below ≡ below }
+        ensures feeds { result.feeds ≡ own }
     {
+        let feeds = Feeds::new();
+        let tallies = tallied(&below, &feeds);
         JunctionBox {
             below,
-            feeds: Feeds::new(),
+            feeds,
+            tallies,
         }
     }
 
     // Makes a port below feed a port above. It refuses a port above 31, that below first, and a ninth gauge, naming the port above; a refusal alters nothing.
     pub fn join(&mut self, below: u8, above: u8) -> Result<(), Fault>
         ensures answer { result ≡ joining (B.shows self.old.below) self.old.feeds below above }
-        ensures after { self.new ≡ record { below = self.old.below; feeds = rejoined (B.shows self.old.below) self.old.feeds below above } }
+        ensures bank { self.new.below ≡ self.old.below }
+        ensures feeds { self.new.feeds ≡ rejoined (B.shows self.old.below) self.old.feeds below above }
     {
         let place = checked_port(below)?;
         let port = checked_port(above)?;
-        let before = self.feeds;
-        self.feeds.turn(place, port);
-        if self.fed_counts(port).gauges > MOST {
-            self.feeds = before;
+        let turned = self.feeds.turned(place, port);
+        if fed_counts(&self.below, &turned, port).gauges > MOST {
             return Err(Cause::NinthGauge.at(port.index()));
         }
+        self.tallies = tallied(&self.below, &turned);
+        self.feeds = turned;
         Ok(())
     }
 
@@ -54,8 +64,7 @@ impl<B: GaugeBank> JunctionBox<B> {
     fn counts(&self, port: Address) -> Counts
         ensures { result ≡ counts (boxed self.now.feeds (B.shows self.now.below) port.number) }
     {
-        let sum = self.fed_counts(port);
-        if sum.gauges > MOST { UNCOUNTED } else { sum }
+        self.tallies[port.index()]
     }
 
     // Draws at each port that feeds this one, as one.
@@ -65,7 +74,8 @@ impl<B: GaugeBank> JunctionBox<B> {
         ensures below { B.shows self.new.below ≡ drawn (fed self.old.feeds) (B.shows self.old.below) port.number 32 }
         ensures feeds { self.new.feeds ≡ self.old.feeds }
     {
-        let sum = self.draw_fed(port);
+        let sum = draw_fed(&mut self.below, &self.feeds, port);
+        self.tallies[port.index()] = one_fewer(self.tallies[port.index()]);
         if sum.gauges > MOST { UNDRAWN } else { sum }
     }
 
@@ -77,10 +87,11 @@ impl<B: GaugeBank> JunctionBox<B> {
         ensures feeds { self.new.feeds ≡ self.old.feeds }
     {
         let empty = Cause::TooFewReadings.at(port.index());
-        if self.counts(port).gauges == 0 || self.dry_port(port).is_some() {
+        if self.counts(port).gauges == 0 || dry_port(&self.below, &self.feeds, port).is_some() {
             return Err(empty);
         }
-        self.draw_fed(port).reading.ok_or(empty)
+        let drawn = self.draw_joined(port);
+        drawn.reading.ok_or(empty)
     }
 }
 
@@ -109,18 +120,16 @@ impl<B: GaugeBank> GaugeBank for JunctionBox<B> {
         self.take_joined(place)
     }
 
-    fn tally(&self, port: u8) -> Result<Counts, Fault> {
-        let place = checked_port(port)?;
-        Ok(self.counts(place))
+    fn tally(&self, port: Address) -> Counts {
+        self.counts(port)
     }
 
-    fn draw(&mut self, port: u8) -> Result<Drawn, Fault>
-        ensures answer { result ≡ drawn_at (boxed self.old.feeds (B.GaugeBank.shows self.old.below)) port }
-        ensures after { boxed self.new.feeds (B.GaugeBank.shows self.new.below) ≡ rest_at (boxed self.old.feeds (B.GaugeBank.shows self.old.below)) port }
-        ensures below { B.GaugeBank.shows self.new.below ≡ below_drawn self.old.feeds (B.GaugeBank.shows self.old.below) port }
+    fn draw(&mut self, port: Address) -> Drawn
+        ensures answer { result ≡ drawing (boxed self.old.feeds (B.GaugeBank.shows self.old.below) port.number) }
+        ensures after { boxed self.new.feeds (B.GaugeBank.shows self.new.below) ≡ rest_at (boxed self.old.feeds (B.GaugeBank.shows self.old.below)) port.number }
+        ensures below { B.GaugeBank.shows self.new.below ≡ drawn (fed self.old.feeds) (B.GaugeBank.shows self.old.below) port.number 32 }
         ensures feeds { self.new.feeds ≡ self.old.feeds }
     {
-        let place = checked_port(port)?;
-        Ok(self.draw_joined(place))
+        self.draw_joined(port)
     }
 }

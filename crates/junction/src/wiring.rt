@@ -11,7 +11,7 @@ use fault::Fault;
 
 // A box as its joins made it, and how many of them were refused.
 #[derive(Drop)]
-pub struct WiredBox<B> {
+pub struct WiredBox<B: GaugeBank> {
     pub junction: JunctionBox<B>,
     pub refused: usize,
 }
@@ -25,7 +25,9 @@ fn refusal_count(answer: Result<(), Fault>) -> usize
 
 // A new box on a bank, joined as the list says, one join after another; a refused one is passed over and counted.
 pub fn wired<B: GaugeBank>(bank: B, joins: &[Join]) -> WiredBox<B>
-    ensures value { result ≡ record { junction = record { below = bank; feeds = after_joins (B.shows bank) own joins.now }; refused = refusals (B.shows bank) own joins.now } }
+    ensures bank { result.junction.below ≡ bank }
+    ensures feeds { result.junction.feeds ≡ after_joins (B.shows bank) own joins.now }
+    ensures refused { result.refused ≡ refusals (B.shows bank) own joins.now }
     ensures meaning { boxed result.junction.feeds (B.shows result.junction.below) ≡ pile (B.shows bank) (joins.now ∷ []) }
     ensures once { CountedOnce }
     ensures free { Free }

@@ -1,0 +1,22 @@
+use Rattle.std.proofs.Common.{◌≡◌, ◌-◌}
+use Rattle.std.specs.Option.{option_map}
+use Rattle.bank.specs.Addresses.{number_of}
+use Rattle.junction.specs.Feeding.{fed}
+use Rattle.junction.specs.Gather.{dry_from}
+use Rattle.junction.proofs.Walks.{stop, Stands}
+use Rattle.junction.proofs.junction_box.gathering.dry_port.Given as goal
+
+-- what is left to search gives the answer
+abbrev pub invariant-loop-asked : goal.invariant-loop-asked
+invariant-loop-asked g l =
+    let f = fed l.feeds in
+    let m = g.B.GaugeBank.shows l.below in
+    let p = l.fn.port.number in
+    let o = option_map number_of l.asked in
+    record {
+      here : Stands f p o;
+      left : dry_from f m p (stop o) (32 - stop o) ≡ dry_from f m p 0 32;
+    }
+
+abbrev pub decreases-loop-asked : goal.decreases-loop-asked
+decreases-loop-asked g l = 32 - stop (option_map number_of l.asked)
