@@ -1,4 +1,4 @@
-// Two ports as one: their counts, and what they give.
+// Two ports as one: their counts, and what they give. A port without a gauge counts for nothing.
 ghost use Rattle.std.specs.Prelude.{◌≡◌, ◌+◌, ◌<◌};
 ghost use Rattle.junction.specs.Counting.{tallied, one_fewer, dried, both_of, drawn_together, Carried};
 
@@ -16,34 +16,16 @@ pub(crate) const UNDRAWN: Drawn = Drawn {
     reading: None,
 };
 
-// The values x and y of ports with m and n gauges as one, where a port without a gauge counts for nothing.
-fn as_one<T: Drop, F: FnOnce(T, T) -> T + Drop>(m: u16, x: T, n: u16, y: T, both: F) -> T
-    requires { F.pre both x y }
-    ensures second { m ≡ 0 → result ≡ y }
-    ensures first { 0 < m → n ≡ 0 → result ≡ x }
-    ensures each { 0 < m → 0 < n → F.post both x y result }
-{
-    if m == 0 {
-        y
-    } else if n == 0 {
-        x
-    } else {
-        both(x, y)
-    }
-}
-
 // The counts of two ports as one: as many readings as in the shorter.
 pub(crate) fn joined_counts(one: Counts, other: Counts) -> Counts
     requires { one.gauges + other.gauges < 65536 }
     ensures { result ≡ tallied one other }
 {
-    let waiting = as_one(
-        one.gauges,
-        one.waiting,
-        other.gauges,
-        other.waiting,
-        u16::min,
-    );
+    let waiting = match (one.gauges, other.gauges) {
+        (0, _) => other.waiting,
+        (_, 0) => one.waiting,
+        _ => one.waiting.min(other.waiting),
+    };
     Counts {
         gauges: one.gauges + other.gauges,
         waiting,
@@ -67,28 +49,31 @@ pub(crate) fn is_dry(counted: Counts) -> bool
     counted.gauges > 0 && counted.waiting == 0
 }
 
-// Two readings as one, none where either is wanting: the loads added exactly, the marks joined.
-fn both(one: Option<Reading>, other: Option<Reading>) -> Option<Reading>
-    requires { (Carried one) × (Carried other) }
-    ensures { result ≡ both_of one other }
+// Adds a reading to a sum, which is none where either is wanting: the loads added exactly, the marks joined.
+fn add_reading(sum: &mut Option<Reading>, one: Option<Reading>)
+    requires { (Carried sum.old) × (Carried one) }
+    ensures { sum.new ≡ both_of sum.old one }
 {
-    let x = one?;
-    let y = other?;
-    Some(Reading {
-        load: x.load + y.load,
-        mark: x.mark.joined(y.mark),
-    })
+    let Some(y) = one else {
+        *sum = None;
+        return;
+    };
+    if let Some(x) = sum {
+        x.load += y.load;
+        x.mark = x.mark.joined(y.mark);
+    }
 }
 
-// What two ports give as one.
-pub(crate) fn joined_draws(one: Drawn, other: Drawn) -> Drawn
-    requires few { one.gauges + other.gauges < 65536 }
-    requires light { (Carried one.reading) × (Carried other.reading) }
-    ensures { result ≡ drawn_together one other }
+// Adds what a port gives to what others gave, as one.
+pub(crate) fn add_draw(sum: &mut Drawn, one: Drawn)
+    requires few { sum.old.gauges + one.gauges < 65536 }
+    requires light { (Carried sum.old.reading) × (Carried one.reading) }
+    ensures { sum.new ≡ drawn_together sum.old one }
 {
-    let reading = as_one(one.gauges, one.reading, other.gauges, other.reading, both);
-    Drawn {
-        gauges: one.gauges + other.gauges,
-        reading,
+    match (sum.gauges, one.gauges) {
+        (0, _) => sum.reading = one.reading,
+        (_, 0) => {}
+        _ => add_reading(&mut sum.reading, one.reading),
     }
+    sum.gauges += one.gauges;
 }

@@ -6,7 +6,7 @@ ghost use Rattle.junction.specs.Gather.{gather, boxed, dry_from, drawn};
 ghost use Rattle.junction.specs.Tallies.{Tallied};
 
 use super::MOST;
-use crate::as_one::{UNCOUNTED, UNDRAWN, is_dry, joined_counts, joined_draws};
+use crate::as_one::{UNCOUNTED, UNDRAWN, add_draw, is_dry, joined_counts};
 use crate::feeds::{Feeds, PORTS};
 use bank::{Address, Counts, Drawn, GaugeBank};
 
@@ -70,7 +70,7 @@ pub(super) fn draw_fed<B: GaugeBank>(below: &mut B, feeds: &Feeds, port: Address
     let mut sum = UNDRAWN;
     let mut at = feeds.first(port);
     while let Some(q) = at {
-        sum = joined_draws(sum, below.draw(q));
+        add_draw(&mut sum, below.draw(q));
         at = feeds.next(q);
     }
     sum

@@ -19,8 +19,8 @@ loop-at-init g c =
       left = drawn_none f m p ∙ sym (first_drawn f p _ c.first-at.ensures m);
     }
 
-pub joined_draws-sum-requires : goal.joined_draws-sum-requires
-joined_draws-sum-requires g c =
+pub add_draw-requires : goal.add_draw-requires
+add_draw-requires g c =
     let f = fed c.args.feeds.now in
     let p = c.args.port.number in
     let m = g.B.GaugeBank.shows c.args.below.now in
@@ -52,7 +52,7 @@ loop-at-preserved g c =
     let one = part_told f m p _ n _ here left c.draw.ensures.answer in
     record {
       here = next_stands f p n q.low here _ c.next-at.ensures;
-      so_far = c.joined_draws-sum.ensures ∙ drawing_next f m p ok n (omega (arith, q.low)) _ _ sum one ∙ ap drawing (sym (next_gather f p n q.low here _ c.next-at.ensures m ok));
+      so_far = c.add_draw.ensures ∙ drawing_next f m p ok n (omega (arith, q.low)) _ _ sum one ∙ ap drawing (sym (next_gather f p n q.low here _ c.next-at.ensures m ok));
       left = drawn_here f m p _ _ n (omega (arith, q.low)) here left c.draw.ensures.after ∙ sym (next_drawn f p n q.low here _ c.next-at.ensures m);
     }
 
