@@ -40,11 +40,8 @@ impl Source for DialTable {
     }
 
     fn next(&mut self, at: Address) -> Option<i32> {
-        let dial = self.dials[at.index()];
-        self.dials[at.index()] = Dial {
-            digits: dial.digits,
-            conversions: dial.conversions.checked_sub(1)?,
-        };
+        let dial = &mut self.dials[at.index()];
+        dial.conversions = dial.conversions.checked_sub(1)?;
         Some(dial.digits)
     }
 }

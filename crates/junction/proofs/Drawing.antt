@@ -1,15 +1,17 @@
 -- What one more feeding port adds when readings are taken.
-use Rattle.std.proofs.Common.{◌≡◌, ℕ, zero, suc, ◌+◌, ◌<◌, ◌≤◌, Bool, true, false, cond, eqb, List, [], ◌∷◌, sym, refl, ap, ◌∙◌, subst, arith}
+use Rattle.std.proofs.Common.{◌≡◌, ℕ, zero, suc, ◌+◌, ◌-◌, ◌<◌, ◌≤◌, Bool, true, false, cond, eqb, Option, List, [], ◌∷◌, sym, refl, ap, ◌∙◌, subst, arith}
 use Rattle.std.proofs.lemmas.Bool.{eq-eqb}
 use Rattle.std.proofs.lemmas.Bool.Decides.{nat_tests}
 use Rattle.bank.specs.declared.counts.Drawn.{Drawn}
 use Rattle.bank.specs.declared.reading.Reading.{Reading}
-use Rattle.bank.specs.Ports.{Port, Sound, Small, front, drawing, rest_at}
+use Rattle.bank.specs.Ports.{Port, Sound, Small, none, front, drawing, rest_at}
+use Rattle.junction.specs.Feeding.{next_from}
 use Rattle.junction.specs.Gather.{paired, lines, join, part, gather, drawn}
 use Rattle.junction.specs.Counting.{both_of, first_of, drawn_together, Carried}
 use Rattle.junction.specs.Limits.{part_fair, part_few, gather_fair}
 use Rattle.junction.proofs.Parts.{gather_next, gather_few}
-use Rattle.junction.proofs.Walks.{part_here}
+use Rattle.junction.proofs.Joining.{none_join}
+use Rattle.junction.proofs.Walks.{stop, part_here, next_gather, next_drawn}
 
 -- ---- the first reading of a gathered port
 front_paired : (xs ys : List Reading) → front (paired xs ys) ≡ both_of (front xs) (front ys)
@@ -65,3 +67,18 @@ module _ (f : ℕ → ℕ) (m : ℕ → Port) (p : ℕ) where
   -- what was drawn at the port n, where the ports from n on are as they were
   pub part_told : (s : ℕ → Port) (n : ℕ) (y : Drawn) → f n ≡ p → s ≡ drawn f m p n → y ≡ drawing (s n) → y ≡ drawing (part f m p n)
   part_told s n y here e d = d ∙ ap drawing ((λ i. e i n) ∙ untouched n n (omega arith) ∙ sym (part_here f p m n here))
+
+-- ---- a step of a walk that draws: at the port q, which feeds p, on to where the map answers
+module _ (f : ℕ → ℕ) (m : ℕ → Port) (p : ℕ) (ok : (k : ℕ) → Sound (m k)) (q : ℕ) (low : q ≤ 31) (here : f q ≡ p) (o : Option ℕ) (is : o ≡ next_from f (f q) (q + 1) (31 - q)) where
+  below_end : q < 32
+  below_end = omega (arith, low)
+
+  pub step_drawing : (x y : Drawn) → x ≡ drawing (gather f m p q) → y ≡ drawing (part f m p q) → drawn_together x y ≡ drawing (gather f m p (stop o))
+  step_drawing x y ex ey = drawing_next f m p ok q below_end x y ex ey ∙ ap drawing (sym (next_gather f p q low here o is m ok))
+
+  pub step_drawn : (s t : ℕ → Port) → s ≡ drawn f m p q → t ≡ rest_at s q → t ≡ drawn f m p (stop o)
+  step_drawn s t e d = drawn_here f m p s t q below_end here e d ∙ sym (next_drawn f p q low here o is m)
+
+  -- the first step
+  pub first_drawing : (y : Drawn) → gather f m p q ≡ none → y ≡ drawing (part f m p q) → y ≡ drawing (gather f m p (stop o))
+  first_drawing y e d = d ∙ ap drawing (sym (none_join (part f m p q)) ∙ ap (λ (a : Port). join a (part f m p q)) (sym e) ∙ sym (gather_next f m p q) ∙ sym (next_gather f p q low here o is m ok))

@@ -76,7 +76,10 @@ impl<B: GaugeBank> JunctionBox<B> {
     {
         let sum = draw_fed(&mut self.below, &self.feeds, port);
         self.tallies[port.index()] = one_fewer(self.tallies[port.index()]);
-        if sum.gauges > MOST { UNDRAWN } else { sum }
+        if sum.gauges > MOST {
+            return UNDRAWN;
+        }
+        sum
     }
 
     // Takes one reading of each port that feeds this one and has a gauge, as one reading; none where one of them has no reading.

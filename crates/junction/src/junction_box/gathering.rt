@@ -67,8 +67,11 @@ pub(super) fn draw_fed<B: GaugeBank>(below: &mut B, feeds: &Feeds, port: Address
     ensures answer { result ≡ drawing (gather (fed feeds.now) (B.shows below.old) port.number 32) }
     ensures after { B.shows below.new ≡ drawn (fed feeds.now) (B.shows below.old) port.number 32 }
 {
-    let mut sum = UNDRAWN;
-    let mut at = feeds.first(port);
+    let Some(first) = feeds.first(port) else {
+        return UNDRAWN;
+    };
+    let mut sum = below.draw(first);
+    let mut at = feeds.next(first);
     while let Some(q) = at {
         add_draw(&mut sum, below.draw(q));
         at = feeds.next(q);

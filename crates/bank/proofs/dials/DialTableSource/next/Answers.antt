@@ -1,5 +1,4 @@
-use Rattle.std.proofs.Common.{◌≡◌, ◌-◌, ◌<◌, length, get_or, ap, ◌∙◌, w32, SFits, to_z, of_z, rules}
-use Rattle.std.proofs.lemmas.Int.{to_z-of_z}
+use Rattle.std.proofs.Common.{◌≡◌, ◌-◌, ◌<◌, length, get_or, ap, ◌∙◌, rules}
 use Rattle.std.proofs.lemmas.List.{get_or_default}
 use Rattle.bank.specs.declared.dial.Dial.{Dial}
 use Rattle.bank.specs.Dials.{still}
@@ -12,8 +11,6 @@ returns-clause-after c =
     let p = c.args.at.number in
     let d = get_or ds c.index.result c.index-self-index.result in
     let long : p < length ds = search rules in
-    let fits : SFits w32 d.digits = search rules in
-    let back : to_z w32 (of_z w32 d.digits) ≡ d.digits = to_z-of_z w32 d.digits fits in
     let same : d ≡ get_or ds p still = (λ i. get_or ds (c.index.ensures i) c.index-self-index.result) ∙ get_or_default ds p c.index-self-index.result still long in
-    let less : c.in_ok-checked_sub.field-0 ≡ (get_or ds p still).conversions - 1 = c.in_ok-checked_sub.ensures.1 ∙ ap (λ (t : Dial). t.conversions - 1) same in
-    given_turned ds c.index-2.result p _ c.index-2.ensures long (λ i. record { digits = (back ∙ ap (λ (t : Dial). t.digits) same) i; conversions = less i })
+    let less : c.in_ok-dial.field-0 ≡ (get_or ds p still).conversions - 1 = c.in_ok-dial.ensures.1 ∙ ap (λ (t : Dial). t.conversions - 1) same in
+    given_turned ds c.index.result p _ c.index.ensures long (λ i. record { digits = ap (λ (t : Dial). t.digits) same i; conversions = less i })

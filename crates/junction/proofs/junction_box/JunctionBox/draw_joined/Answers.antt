@@ -19,7 +19,7 @@ returns-then-sum-gt-MOST-clause-after g c =
     let s = c.args.self.now in
     box_drawn s.feeds s.feeds (g.B.GaugeBank.shows s.below) _ c.args.port.number c.args.port.low refl c.draw_fed-sum.ensures.after
 
-pub returns-else-sum-gt-MOST-clause-after : goal.returns-else-sum-gt-MOST-clause-after
-returns-else-sum-gt-MOST-clause-after g c =
+pub returns-clause-after : goal.returns-clause-after
+returns-clause-after g c =
     let s = c.args.self.now in
     box_drawn s.feeds s.feeds (g.B.GaugeBank.shows s.below) _ c.args.port.number c.args.port.low refl c.draw_fed-sum.ensures.after

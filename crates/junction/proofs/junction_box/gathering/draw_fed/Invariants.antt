@@ -11,7 +11,7 @@ use Rattle.junction.proofs.junction_box.gathering.draw_fed.Given as goal
 abbrev pub invariant-loop-at : goal.invariant-loop-at
 invariant-loop-at g l =
     let f = fed l.feeds in
-    let m = g.B.GaugeBank.shows l.initial.below in
+    let m = g.B.GaugeBank.shows l.fn.below in
     let p = l.fn.port.number in
     let o = option_map number_of l.at in
     record {
