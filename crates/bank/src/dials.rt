@@ -40,8 +40,9 @@ impl Source for DialTable {
     }
 
     fn next(&mut self, at: Address) -> Option<i32> {
-        let dial = &mut self.dials[at.index()];
-        dial.conversions = dial.conversions.checked_sub(1)?;
+        let place = at.index();
+        let dial = self.dials[place];
+        self.dials[place].conversions = dial.conversions.checked_sub(1)?;
         Some(dial.digits)
     }
 }

@@ -9,8 +9,10 @@ pub returns-clause-after : goal.returns-clause-after
 returns-clause-after c =
     let ds = c.args.self.now.dials in
     let p = c.args.at.number in
-    let d = get_or ds c.index.result c.index-self-index.result in
+    let place = c.index-place.result in
+    let d = get_or ds place c.index-self-place.result in
     let long : p < length ds = search rules in
-    let same : d ≡ get_or ds p still = (λ i. get_or ds (c.index.ensures i) c.index-self-index.result) ∙ get_or_default ds p c.index-self-index.result still long in
-    let less : c.in_ok-dial.field-0 ≡ (get_or ds p still).conversions - 1 = c.in_ok-dial.ensures.1 ∙ ap (λ (t : Dial). t.conversions - 1) same in
-    given_turned ds c.index.result p _ c.index.ensures long (λ i. record { digits = ap (λ (t : Dial). t.digits) same i; conversions = less i })
+    let at_place : get_or ds place c.index-self-place-2.result ≡ get_or ds p still = (λ i. get_or ds (c.index-place.ensures i) c.index-self-place-2.result) ∙ get_or_default ds p c.index-self-place-2.result still long in
+    let same : d ≡ get_or ds p still = (λ i. get_or ds (c.index-place.ensures i) c.index-self-place.result) ∙ get_or_default ds p c.index-self-place.result still long in
+    let less : c.in_ok-self.field-0 ≡ (get_or ds p still).conversions - 1 = c.in_ok-self.ensures.1 ∙ ap (λ (t : Dial). t.conversions - 1) same in
+    given_turned ds place p _ c.index-place.ensures long (λ i. record { digits = ap (λ (t : Dial). t.digits) at_place i; conversions = less i })
