@@ -15,7 +15,7 @@ use Rattle.junction.specs.declared.feeds.Feeds.{Feeds}
 use Rattle.junction.specs.Feeding.{fed}
 use Rattle.junction.specs.Gather.{paired, lines, join, part, gather, capped, boxed, dry_from, drawn}
 use Rattle.junction.specs.Counting.{one_fewer}
-use Rattle.junction.specs.Tallies.{Tallied}
+use Rattle.junction.specs.Tallies.{CountsOf}
 use Rattle.junction.specs.Limits.{boxed_sound}
 use Rattle.junction.proofs.Parts.{some_dry}
 
@@ -74,12 +74,12 @@ elsewhere : (m : ℕ → Port) (p r : ℕ) → r ≢ p → rest_at m p r ≡ m r
 elsewhere m p r ne = grind (arith, nat_tests)
 
 -- one reading is gone at port p, and nothing elsewhere
-pub box_drawn : (fs gs : Feeds) (m k : ℕ → Port) (p : ℕ) → p ≤ 31 → gs ≡ fs → k ≡ drawn (fed fs) m p 32 → boxed gs k ≡ rest_at (boxed fs m) p
-box_drawn fs gs m k p h same was = ap (λ (x : Feeds). boxed x k) same ∙ (λ i. λ r.
+pub box_drawn : (fs : Feeds) (m k : ℕ → Port) (p : ℕ) → p ≤ 31 → k ≡ drawn (fed fs) m p 32 → boxed fs k ≡ rest_at (boxed fs m) p
+box_drawn fs m k p h was = λ i. λ r.
     ⊎_elim
     (λ (e : r ≡ p). subst (λ (x : ℕ). boxed fs k x ≡ rest_at (boxed fs m) p x) (sym e) (ap capped (gather_popped (fed fs) m k p was 32 (omega arith)) ∙ popped_capped (gather (fed fs) m p 32) ∙ sym (here (boxed fs m) p h)))
     (λ (e : r ≢ p). ap capped (gather_kept (fed fs) m k p was r e 32 (omega arith)) ∙ sym (elsewhere (boxed fs m) p r e))
-    (cases_eq r p) i)
+    (cases_eq r p) i
 
 -- the counts of the ports, once a reading is taken at port p: one fewer there
 fewer_popped : (a : Port) → one_fewer (counts a) ≡ counts (popped a)
@@ -88,8 +88,8 @@ fewer_popped a = λ i. record { gauges = a.gauges; waiting = length_rest a.waiti
   length_rest [] = refl
   length_rest (x ∷ xs) = omega arith
 
-pub tallied_after : (before after : ℕ → Port) (all : List Counts) (j k p : ℕ) (c : Counts) → length all ≡ 32 → p ≤ 31 → after ≡ rest_at before p → j ≡ p → k ≡ p → c ≡ one_fewer (get_or all j (counts none)) → Tallied before all → Tallied after (set all k c)
-tallied_after before after all j k p c long low was is there fewer old q h =
+pub counts_after : (before after : ℕ → Port) (all : List Counts) (j k p : ℕ) (c : Counts) → length all ≡ 32 → p ≤ 31 → after ≡ rest_at before p → j ≡ p → k ≡ p → c ≡ one_fewer (get_or all j (counts none)) → CountsOf before all → CountsOf after (set all k c)
+counts_after before after all j k p c long low was is there fewer old q h =
     ap (λ (x : ℕ). get_or (set all x c) q (counts none)) there
     ∙ ⊎_elim
     (λ (e : q ≡ p). subst (λ (x : ℕ). get_or (set all p c) x (counts none) ≡ counts (rest_at before p x)) (sym e)

@@ -3,7 +3,7 @@ ghost use Rattle.std.specs.Prelude.{◌≡◌, length};
 ghost use Rattle.bank.specs.Ports.{counts, drawing, first_at, rest_at};
 ghost use Rattle.junction.specs.Feeding.{fed, own};
 ghost use Rattle.junction.specs.Gather.{boxed, drawn, left_below, below_after};
-ghost use Rattle.junction.specs.Tallies.{Tallied};
+ghost use Rattle.junction.specs.Tallies.{CountsOf};
 ghost use Rattle.junction.specs.Limits.{boxed_sound};
 ghost use Rattle.junction.specs.Joins.{joining, rejoined};
 
@@ -13,7 +13,7 @@ use crate::as_one::{UNDRAWN, one_fewer};
 use crate::feeds::Feeds;
 use bank::{Address, Counts, Drawn, GaugeBank, Reading, checked_port};
 use fault::{Cause, Fault};
-use gathering::{draw_fed, dry_port, fed_counts, tallied};
+use gathering::{all_counts, draw_fed, dry_port, fed_counts};
 
 // The most gauges that may feed one port.
 const MOST: u16 = 8;
@@ -25,7 +25,7 @@ pub struct JunctionBox<B: GaugeBank> {
     feeds: Feeds,
     tallies: [Counts; 32],
     ghost long: { length tallies ≡ 32 },
-    ghost each: { Tallied (boxed feeds (B.shows below)) tallies },
+    ghost each: { CountsOf (boxed feeds (B.shows below)) tallies },
 }
 
 impl<B: GaugeBank> JunctionBox<B> {
@@ -35,7 +35,7 @@ impl<B: GaugeBank> JunctionBox<B> {
         ensures feeds { result.feeds ≡ own }
     {
         let feeds = Feeds::new();
-        let tallies = tallied(&below, &feeds);
+        let tallies = all_counts(&below, &feeds);
         JunctionBox {
             below,
             feeds,
@@ -55,7 +55,7 @@ impl<B: GaugeBank> JunctionBox<B> {
         if fed_counts(&self.below, &turned, port).gauges > MOST {
             return Err(Cause::NinthGauge.at(port.index()));
         }
-        self.tallies = tallied(&self.below, &turned);
+        self.tallies = all_counts(&self.below, &turned);
         self.feeds = turned;
         Ok(())
     }

@@ -3,7 +3,7 @@ ghost use Rattle.std.specs.Prelude.{◌≡◌, length};
 ghost use Rattle.bank.specs.Ports.{counts, drawing};
 ghost use Rattle.junction.specs.Feeding.{fed};
 ghost use Rattle.junction.specs.Gather.{gather, boxed, dry_from, drawn};
-ghost use Rattle.junction.specs.Tallies.{Tallied};
+ghost use Rattle.junction.specs.Tallies.{CountsOf};
 
 use super::MOST;
 use crate::as_one::{UNCOUNTED, UNDRAWN, add_draw, is_dry, joined_counts};
@@ -32,9 +32,9 @@ fn port_counts<B: GaugeBank>(below: &B, feeds: &Feeds, port: Address) -> Counts
 }
 
 // Both counts of every port.
-pub(super) fn tallied<B: GaugeBank>(below: &B, feeds: &Feeds) -> [Counts; 32]
+pub(super) fn all_counts<B: GaugeBank>(below: &B, feeds: &Feeds) -> [Counts; 32]
     ensures long { length result ≡ 32 }
-    ensures each { Tallied (boxed feeds.now (B.shows below.now)) result }
+    ensures each { CountsOf (boxed feeds.now (B.shows below.now)) result }
 {
     let mut tallies = [UNCOUNTED; 32];
     for number in 0..PORTS {

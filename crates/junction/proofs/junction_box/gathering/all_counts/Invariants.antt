@@ -1,7 +1,7 @@
 use Rattle.std.proofs.Common.{◌≡◌, ℕ, ◌<◌, length, get_or}
 use Rattle.bank.specs.Ports.{none, counts}
 use Rattle.junction.specs.Gather.{boxed}
-use Rattle.junction.proofs.junction_box.gathering.tallied.Given as goal
+use Rattle.junction.proofs.junction_box.gathering.all_counts.Given as goal
 
 -- the ports below the number have their counts in the list
 abbrev pub invariant-loop-number : goal.invariant-loop-number
