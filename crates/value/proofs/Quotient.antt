@@ -1,8 +1,9 @@
 -- The nearest whole number to a quotient: that it is one, and the only one. Assumes nothing.
-use Rattle.std.proofs.Common.{◌≡◌, ℕ, zero, suc, ◌+◌, ◌-◌, ◌*◌, ◌/◌, ◌%◌, ◌<◌, ◌≤◌, ◌⊎◌, ℤ, pos, negsuc, ◌+ℤ◌, ◌-ℤ◌, ◌*ℤ◌, neg_ℤ, nat_abs, ◌≤ℤ◌, ◌<ℤ◌, sym, refl, ap, ◌∙◌, inl, inr, ⊎_elim, mul_assoc, suc-mul, mul_comm, zero-mul, div-le_self, arith, SFits}
+use Rattle.std.proofs.Common.{◌≡◌, ℕ, zero, suc, ◌+◌, ◌-◌, ◌*◌, ◌/◌, ◌%◌, ◌<◌, ◌≤◌, ◌⊎◌, min, ℤ, pos, negsuc, ◌+ℤ◌, ◌-ℤ◌, ◌*ℤ◌, neg_ℤ, nat_abs, ◌≤ℤ◌, ◌<ℤ◌, sym, refl, ap, ◌∙◌, inl, inr, ⊎_elim, mul_assoc, suc-mul, mul_comm, zero-mul, div-le_self, arith, SFits}
 use native.Mathlib.Nat.{div-zero}
 use lib.Signed.{mag, mag_rem, quot_z, rem_z}
-use mir.Syntax.{w128}
+use mir.Syntax.{Width}
+use Rattle.std.specs.Int.{int_signum}
 use Rattle.std.proofs.lemmas.Int.{ints, by_lt_z}
 use Rattle.std.proofs.lemmas.Nat.{div-add-mod', mod_below, div-mul-add, mul-le}
 use Rattle.std.proofs.lemmas.Bool.{cases_lt}
@@ -135,14 +136,14 @@ whole (negsuc n) (pos d) p h = let e = abs_neg (suc n % d) in ap (λ k. neg_ℤ 
 whole (pos n) (negsuc d) p h = absurd p.lt
 whole (negsuc n) (negsuc d) p h = absurd p.lt
 
-pub one_more : (num den : ℤ) → pos 0 <ℤ den → pos 0 ≤ℤ num → nat_abs den - nat_abs (rem_z num den) ≤ nat_abs (rem_z num den) → quot_z num den +ℤ pos 1 ≡ nearest num den
+one_more : (num den : ℤ) → pos 0 <ℤ den → pos 0 ≤ℤ num → nat_abs den - nat_abs (rem_z num den) ≤ nat_abs (rem_z num den) → quot_z num den +ℤ pos 1 ≡ nearest num den
 unfolding nearest
 one_more (pos n) (pos d) p s h = ap pos (sym (near_more n d (omega (arith, ints)) h))
 one_more (negsuc n) (pos d) p s h = absurd s.le
 one_more (pos n) (negsuc d) p s h = absurd p.lt
 one_more (negsuc n) (negsuc d) p s h = absurd p.lt
 
-pub one_less : (num den : ℤ) → pos 0 <ℤ den → num <ℤ pos 0 → nat_abs den - nat_abs (rem_z num den) ≤ nat_abs (rem_z num den) → quot_z num den -ℤ pos 1 ≡ nearest num den
+one_less : (num den : ℤ) → pos 0 <ℤ den → num <ℤ pos 0 → nat_abs den - nat_abs (rem_z num den) ≤ nat_abs (rem_z num den) → quot_z num den -ℤ pos 1 ≡ nearest num den
 unfolding nearest
 one_less (pos n) (pos d) p s h = absurd (omega (arith, ints))
 one_less (negsuc n) (pos d) p s h =
@@ -152,25 +153,34 @@ one_less (negsuc n) (pos d) p s h =
 one_less (pos n) (negsuc d) p s h = absurd p.lt
 one_less (negsuc n) (negsuc d) p s h = absurd p.lt
 
+-- one more away from zero; 0 leaves no rest
+pub one_away : (num den : ℤ) → pos 0 <ℤ den → nat_abs den - nat_abs (rem_z num den) ≤ nat_abs (rem_z num den) → quot_z num den +ℤ int_signum num ≡ nearest num den
+one_away (pos zero) den p h = absurd (omega (arith, ints, mag_rem (pos 0) den))
+one_away (pos (suc n)) den p h =
+    let one : min (suc n) 1 ≡ 1 = omega arith in
+    ap (λ k. quot_z (pos (suc n)) den +ℤ pos k) one ∙ one_more (pos (suc n)) den p (omega (arith, ints)) h
+one_away (negsuc n) den p h = one_less (negsuc n) den p (omega (arith, ints)) h
+
 pub neg_fits : (k n : ℕ) → k ≤ suc n → mag (neg_ℤ (pos k)) ≤ n
 neg_fits zero n h = omega arith
 neg_fits (suc k) n h = omega arith
 
-pub quot_fits : (num den : ℤ) → pos 0 <ℤ den → SFits w128 num → SFits w128 (quot_z num den)
-quot_fits (pos n) (pos d) p f = record { sfits = omega (arith, f.sfits, div-le_self n d) }
-quot_fits (negsuc n) (pos d) p f = record { sfits = omega (arith, f.sfits, neg_fits (suc n / d) n (div-le_self (suc n) d)) }
-quot_fits (pos n) (negsuc d) p f = absurd p.lt
-quot_fits (negsuc n) (negsuc d) p f = absurd p.lt
+-- in any width in which the number divided has room
+pub quot_fits : (w : Width) (num den : ℤ) → pos 0 <ℤ den → SFits w num → SFits w (quot_z num den)
+quot_fits w (pos n) (pos d) p f = record { sfits = omega (arith, f.sfits, div-le_self n d) }
+quot_fits w (negsuc n) (pos d) p f = record { sfits = omega (arith, f.sfits, neg_fits (suc n / d) n (div-le_self (suc n) d)) }
+quot_fits w (pos n) (negsuc d) p f = absurd p.lt
+quot_fits w (negsuc n) (negsuc d) p f = absurd p.lt
 
-pub rem_fits : (num den : ℤ) → SFits w128 num → SFits w128 (rem_z num den)
-rem_fits num den f = record { sfits = omega (arith, f.sfits, mag_rem num den) }
+pub rem_fits : (w : Width) (num den : ℤ) → SFits w num → SFits w (rem_z num den)
+rem_fits w num den f = record { sfits = omega (arith, f.sfits, mag_rem num den) }
 
-pub nearest_fits : (num den : ℤ) → SFits w128 num → SFits w128 (nearest num den)
+pub nearest_fits : (w : Width) (num den : ℤ) → SFits w num → SFits w (nearest num den)
 unfolding nearest
-nearest_fits (pos n) (pos d) f = record { sfits = omega (arith, f.sfits, near_le n d) }
-nearest_fits (negsuc n) (pos d) f = record { sfits = omega (arith, f.sfits, neg_fits (near (suc n) d) n (near_le (suc n) d)) }
-nearest_fits (pos n) (negsuc d) f = record { sfits = omega arith }
-nearest_fits (negsuc n) (negsuc d) f = record { sfits = omega arith }
+nearest_fits w (pos n) (pos d) f = record { sfits = omega (arith, f.sfits, near_le n d) }
+nearest_fits w (negsuc n) (pos d) f = record { sfits = omega (arith, f.sfits, neg_fits (near (suc n) d) n (near_le (suc n) d)) }
+nearest_fits w (pos n) (negsuc d) f = record { sfits = omega (arith, f.sfits) }
+nearest_fits w (negsuc n) (negsuc d) f = record { sfits = omega (arith, f.sfits) }
 
 pub nearest_le : (num den : ℤ) → nat_abs (nearest num den) ≤ nat_abs num
 unfolding nearest

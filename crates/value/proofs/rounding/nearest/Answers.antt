@@ -1,10 +1,9 @@
-use Rattle.std.proofs.Common.{◌≡◌, ◌*◌, ◌≤◌, ℤ, pos, ◌+ℤ◌, ◌-ℤ◌, nat_abs, ◌≤ℤ◌, ◌<ℤ◌, sym, ◌∙◌, subst, arith, SFits}
-use lib.Signed.{quot_z, clash_ℤ}
+use Rattle.std.proofs.Common.{◌≡◌, ◌≤◌, ℤ, pos, nat_abs, ◌≤ℤ◌, ◌<ℤ◌, sym, ◌∙◌, subst, arith, w64, SFits}
+use lib.Signed.{clash_ℤ}
 use mir.Syntax.{w128}
 use Rattle.std.proofs.lemmas.Int.{ints, to_z-of_z}
-use Rattle.std.proofs.lemmas.Bool.{leb-true, leb-false}
 use Rattle.value.specs.Rounding.{nearest, Rounded}
-use Rattle.value.proofs.Quotient.{rounded, nearest_none, nearest_fits, nearest_le, quot_fits, rem_fits, whole, one_more, one_less}
+use Rattle.value.proofs.Quotient.{rounded, nearest_none, nearest_fits, nearest_le}
 use Rattle.value.proofs.rounding.nearest.Goals as goal
 
 -- what is equal to the nearest number is one that rounds, and no larger than the dividend
@@ -21,51 +20,30 @@ returns-then-den-le0 c =
     let none : c.args.den ≤ℤ pos 0 = omega (arith, ints) in
     record { value = nearest_none c.args.num c.args.den none; close = λ h. clash_ℤ h none; size = omega arith }
 
-pub returns-else-half : goal.returns-else-half
-returns-else-half c =
+pub returns-in-Ok-Ok : goal.returns-in-Ok-Ok
+returns-in-Ok-Ok c =
     let num = c.args.num in
     let den = c.args.den in
     let n = c.ranges.num in
     let d = c.ranges.den in
     let p : pos 0 <ℤ den = omega (arith, ints) in
-    let q = quot_fits num den p n in
-    let m = rem_fits num den n in
-    let a = simp to_z-of_z at c.unsigned_abs.ensures.value in
-    let b = simp to_z-of_z at c.unsigned_abs-rest.ensures.value in
-    let t = leb-false c.unsigned_abs.result (2 * c.unsigned_abs-rest.result) (sym c.half_or_more-half.ensures ∙ c.if-half.false) in
-    let f = found num den (quot_z num den) p (whole num den p (omega (arith, a, b))) in
+    let q : SFits w128 c.from.result = record { sfits = c.from.type_inv } in
+    let r : SFits w64 c.nearest_narrow.result = record { sfits = c.nearest_narrow.type_inv } in
+    let a = simp to_z-of_z at c.in-Ok-Ok.ensures in
+    let b = simp to_z-of_z at c.in-Ok-Ok.ensures' in
+    let same : (c.in-Ok-Ok.num ≡ num) × (c.in-Ok-Ok.den ≡ den) = (a.1, b.1) in
+    let m : SFits w64 c.in-Ok-Ok.num = subst (SFits w64) (sym a.1) a.0 in
+    let e : SFits w64 c.in-Ok-Ok.den = subst (SFits w64) (sym b.1) b.0 in
+    let f = found num den c.from.result p ((simp to_z-of_z at c.from.ensures) ∙ (simp to_z-of_z at c.nearest_narrow.ensures) ∙ (λ i. nearest (same.0 i) (same.1 i))) in
     record { value = simp to_z-of_z f.value; close = simp to_z-of_z f.close; size = simp to_z-of_z f.size }
 
-pub returns-then-num-lt0 : goal.returns-then-num-lt0
-returns-then-num-lt0 c =
+pub returns-in_default : goal.returns-in_default
+returns-in_default c =
     let num = c.args.num in
     let den = c.args.den in
     let n = c.ranges.num in
     let d = c.ranges.den in
     let p : pos 0 <ℤ den = omega (arith, ints) in
-    let q = quot_fits num den p n in
-    let m = rem_fits num den n in
-    let a = simp to_z-of_z at c.unsigned_abs.ensures.value in
-    let b = simp to_z-of_z at c.unsigned_abs-rest.ensures.value in
-    let t = leb-true c.unsigned_abs.result (2 * c.unsigned_abs-rest.result) (sym c.half_or_more-half.ensures ∙ c.if-half.true) in
-    let e = one_less num den p (omega (arith, ints)) (omega (arith, a, b)) in
-    let s : SFits w128 (quot_z num den -ℤ pos 1) = subst (SFits w128) (sym e) (nearest_fits num den n) in
-    let f = found num den (quot_z num den -ℤ pos 1) p e in
-    record { value = simp to_z-of_z f.value; close = simp to_z-of_z f.close; size = simp to_z-of_z f.size }
-
-pub returns-else-num-lt0 : goal.returns-else-num-lt0
-returns-else-num-lt0 c =
-    let num = c.args.num in
-    let den = c.args.den in
-    let n = c.ranges.num in
-    let d = c.ranges.den in
-    let p : pos 0 <ℤ den = omega (arith, ints) in
-    let q = quot_fits num den p n in
-    let m = rem_fits num den n in
-    let a = simp to_z-of_z at c.unsigned_abs.ensures.value in
-    let b = simp to_z-of_z at c.unsigned_abs-rest.ensures.value in
-    let t = leb-true c.unsigned_abs.result (2 * c.unsigned_abs-rest.result) (sym c.half_or_more-half.ensures ∙ c.if-half.true) in
-    let e = one_more num den p (omega (arith, ints)) (omega (arith, a, b)) in
-    let s : SFits w128 (quot_z num den +ℤ pos 1) = subst (SFits w128) (sym e) (nearest_fits num den n) in
-    let f = found num den (quot_z num den +ℤ pos 1) p e in
+    let q : SFits w128 c.nearest_wide.result = record { sfits = c.nearest_wide.type_inv } in
+    let f = found num den c.nearest_wide.result p (simp to_z-of_z at c.nearest_wide.ensures) in
     record { value = simp to_z-of_z f.value; close = simp to_z-of_z f.close; size = simp to_z-of_z f.size }
