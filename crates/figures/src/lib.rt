@@ -1,8 +1,22 @@
 // A number as decimal figures.
 #![tactic(auto)]
 
-ghost use Rattle.std.specs.Prelude.{◌≡◌};
+ghost use Rattle.std.specs.Prelude.{◌≡◌, ◌+◌, ◌/◌, ◌%◌, ◌<◌, [], ◌∷◌};
 ghost use Rattle.figures.specs.Figures.{digits};
+
+// The two figures of each number below 100.
+static PAIRS: [u8; 200] =
+    *b"00010203040506070809101112131415161718192021222324252627282930313233343536373839404142434445464748495051525354555657585960616263646566676869707172737475767778798081828384858687888990919293949596979899";
+
+// The two figures of a number below 100.
+fn pair(n: u64) -> [u8; 2]
+    requires { n < 100 }
+    ensures { result ≡ (48 + n / 10) ∷ (48 + n % 10) ∷ [] }
+{
+    let from = 2 * n as usize;
+    let (tens, ones) = (PAIRS[from], PAIRS[from + 1]);
+    [tens, ones]
+}
 
 // The last N decimal figures of a number as text, the high one first.
 pub fn digits<const N: usize>(n: u64) -> [u8; N]
@@ -10,10 +24,17 @@ pub fn digits<const N: usize>(n: u64) -> [u8; N]
 {
     let mut text = [b'0'; N];
     let mut rest = n;
-    // Kept: (c) by index: over iter_mut().rev() the proof did not close, which then knows nothing of what was written.
-    for i in (0..N).rev() {
-        text[i] = b'0' + (rest % 10) as u8;
-        rest /= 10;
+    let mut left = N;
+    // Two figures for each division.
+    while left >= 2 {
+        left -= 2;
+        let [tens, ones] = pair(rest % 100);
+        text[left] = tens;
+        text[left + 1] = ones;
+        rest /= 100;
+    }
+    if left == 1 {
+        text[0] = b'0' + (rest % 10) as u8;
     }
     text
 }

@@ -66,6 +66,19 @@ fn size(values: usize, each: usize, last: usize) -> u128
     values as u128 * each as u128 + last as u128
 }
 
+// Writes an end, or nothing where it has no room: how many bytes were written. An end of two bytes is
+// written as two bytes, which costs less than a copy of so many.
+fn place_end(end: &[u8], out: &mut [u8]) -> usize
+    ensures count { result ≡ length (granted out.old end.now) }
+    ensures buffer { out.new ≡ written out.old end.now }
+{
+    match end {
+        [] => 0,
+        [first, second] => place(&[*first, *second], out),
+        _ => place(end, out),
+    }
+}
+
 // Writes the values one after another, or nothing where the whole block has no room: how many bytes were written.
 pub fn write_block<F: ValueFormat>(
     values: &[Measured],
@@ -85,7 +98,7 @@ pub fn write_block<F: ValueFormat>(
     let mut n = 0;
     for m in values {
         n += write_value::<F>(*m, address, nominal, &mut out[n..]);
-        n += place(each, &mut out[n..]);
+        n += place_end(each, &mut out[n..]);
     }
-    n + place(last, &mut out[n..])
+    n + place_end(last, &mut out[n..])
 }

@@ -1,10 +1,14 @@
-use Rattle.std.proofs.Common.{◌≡◌, ◌-◌, ◌/◌, ◌^◌, length, drop}
+use Rattle.std.proofs.Common.{◌≡◌, ◌-◌, ◌/◌, ◌^◌, ◌≤◌, length, drop}
 use Rattle.figures.specs.Figures.{digits}
 use Rattle.figures.proofs.digits.Given as goal
 
-abbrev pub invariant-loop-i : goal.invariant-loop-i
-invariant-loop-i g l = record {
+abbrev pub invariant-loop-left : goal.invariant-loop-left
+invariant-loop-left g l = record {
   long : length l.text ≡ g.row.N;
-  left : l.rest ≡ l.n / 10 ^ (g.row.N - l.i);
-  done : drop l.i l.text ≡ digits (g.row.N - l.i) l.n;
+  inside : l.left ≤ g.row.N;
+  rest : l.rest ≡ l.n / 10 ^ (g.row.N - l.left);
+  done : drop l.left l.text ≡ digits (g.row.N - l.left) l.n;
 }
+
+abbrev pub decreases-loop-left : goal.decreases-loop-left
+decreases-loop-left g l = l.left

@@ -37,13 +37,13 @@ loop-m-preserved g c =
     let each = c.after_each-each.result.now in
     let size = rw c.WIDTH.ensures at c.size.ensures in
     block_more (bytes g c.args.nominal c.args.address) each g.F.ValueFormat.WIDTH (long g c.args.nominal c.args.address) vs c.args.out.now
-    c.loop-m.m-index c.loop-m.n c.write_value-n.result c.place-n.result c.loop-m.out c.write_value-n.new.out c.place-n.new.out
+    c.loop-m.m-index c.loop-m.n c.write_value-n.result c.place_end-n.result c.loop-m.out c.write_value-n.new.out c.place_end-n.new.out
     (record { value = pos 0; status = 0 })
     (omega arith)
     (omega (arith, c.if-out-size.false, size))
     c.loop-m.invariant
     c.write_value-n.ensures.count c.write_value-n.ensures.buffer
-    c.place-n.ensures.count c.place-n.ensures.buffer
+    c.place_end-n.ensures.count c.place_end-n.ensures.buffer
 
 pub returns-clause-buffer : goal.returns-clause-buffer
 returns-clause-buffer g c =
@@ -58,7 +58,7 @@ returns-clause-buffer g c =
     let size = rw c.WIDTH.ensures at c.size.ensures in
     let fits : length front + length last ≤ length before = omega (arith, c.if-out-size.false, size, length_values f wide (long g c.args.nominal c.args.address) each vs) in
     let done = block_all (λ m. f m ++ each) (wide + length each) vs before c.loop-m.m-index c.loop-m.n c.loop-m.out (omega arith) c.loop-m.invariant in
-    let all = more before front last c.loop-m.out c.place.new.out c.loop-m.n c.place.result done.1 done.0 fits c.place.ensures.count c.place.ensures.buffer in
+    let all = more before front last c.loop-m.out c.place_end.new.out c.loop-m.n c.place_end.result done.1 done.0 fits c.place_end.ensures.count c.place_end.ensures.buffer in
     let e = c.after_each-each.ensures in
     let l = c.after_all-last.ensures in
     let same : front ++ last ≡ block ending f vs = (λ i. flat_map (λ m. f m ++ e i) vs ++ l i) in
