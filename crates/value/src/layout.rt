@@ -1,6 +1,7 @@
 // The layouts of a value, each by its format.
 ghost use Rattle.std.specs.Prelude.{◌≡◌, ◌≤◌, length};
 ghost use Rattle.value.specs.Blocks.{value_bytes, block};
+ghost use Rattle.value.specs.Fitting.{fits};
 ghost use Rattle.value.specs.Numbers.{known};
 ghost use Rattle.value.specs.Output.{shape, layout_numbered};
 ghost use Rattle.value.specs.Written.{granted, written};
@@ -9,7 +10,6 @@ use crate::binary::{Reversed, ThreeBytes, ThreeBytesStatus, TwoBytes};
 use crate::block::{Ending, Measured, write_block};
 use crate::decimal::{Decimal, DecimalStatus};
 use crate::format::ValueFormat;
-use crate::limits::Limits;
 use crate::unknown::UnknownNumber;
 
 // The order of the bytes of a value; the discriminant is the layout's number.
@@ -62,33 +62,32 @@ impl Layout {
         matches!(self, Layout::Decimal | Layout::DecimalStatus)
     }
 
-    // The full scale and the limits of its family of formats.
-    fn family(self) -> (u32, Limits)
-        ensures full { result.0 ≡ (shape self).full }
-        ensures limits { result.1 ≡ (shape self).limits }
+    // What the whole span shows where no nominal value is set.
+    pub(crate) fn full_scale(self) -> u32
+        ensures { result ≡ (shape self).full }
     {
         match self {
             Layout::ThreeBytes
             | Layout::ThreeBytesStatus
             | Layout::ThreeBytesReversed
-            | Layout::ThreeBytesStatusReversed => (ThreeBytes::FULL_SCALE, ThreeBytes::LIMITS),
-            Layout::TwoBytes | Layout::TwoBytesReversed => (TwoBytes::FULL_SCALE, TwoBytes::LIMITS),
-            Layout::Decimal | Layout::DecimalStatus => (Decimal::FULL_SCALE, Decimal::LIMITS),
+            | Layout::ThreeBytesStatusReversed => ThreeBytes::FULL_SCALE,
+            Layout::TwoBytes | Layout::TwoBytesReversed => TwoBytes::FULL_SCALE,
+            Layout::Decimal | Layout::DecimalStatus => Decimal::FULL_SCALE,
         }
     }
 
-    // What the whole span shows where no nominal value is set.
-    pub(crate) fn full_scale(self) -> u32
-        ensures { result ≡ (shape self).full }
+    // Whether a value fits at this nominal value.
+    pub(crate) fn fits(self, nominal: u32, value: i128) -> bool
+        ensures { result ≡ fits (shape self).limits nominal value }
     {
-        self.family().0
-    }
-
-    // What fits, and the overflow values.
-    pub(crate) fn limits(self) -> Limits
-        ensures { result ≡ (shape self).limits }
-    {
-        self.family().1
+        match self {
+            Layout::ThreeBytes
+            | Layout::ThreeBytesStatus
+            | Layout::ThreeBytesReversed
+            | Layout::ThreeBytesStatusReversed => ThreeBytes::LIMITS.fits(nominal, value),
+            Layout::TwoBytes | Layout::TwoBytesReversed => TwoBytes::LIMITS.fits(nominal, value),
+            Layout::Decimal | Layout::DecimalStatus => Decimal::LIMITS.fits(nominal, value),
+        }
     }
 
     // Writes the values as a block of this layout, or nothing where they have no room.

@@ -68,7 +68,7 @@ impl OutputFormat {
     pub fn fits(self, nominal: u32, value: i128) -> bool
         ensures { result ≡ fits (shape self.layout).limits nominal value }
     {
-        self.layout.limits().fits(nominal, value)
+        self.layout.fits(nominal, value)
     }
 
     // Decimal values each end with CR LF, a binary block ends with one, or it is dropped.

@@ -17,7 +17,8 @@ fn nearest_narrow(num: i64, den: i64) -> i64
 {
     let whole = num / den;
     let rest = (num % den).unsigned_abs();
-    if half_or_more(u128::from(rest), u128::from(den.unsigned_abs())) {
+    let missing = den.unsigned_abs() - rest;
+    if missing <= rest {
         whole + num.signum()
     } else {
         whole

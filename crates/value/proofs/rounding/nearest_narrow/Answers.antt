@@ -1,13 +1,23 @@
-use Rattle.std.proofs.Common.{◌*◌, ◌+ℤ◌, sym, ◌∙◌, subst, arith, w64, SFits}
+use Rattle.std.proofs.Common.{◌+ℤ◌, sym, subst, arith, w64, SFits}
 use lib.Signed.{quot_z}
 use Rattle.std.specs.Int.{int_signum}
-use Rattle.std.proofs.lemmas.Int.{to_z-of_z}
-use Rattle.std.proofs.lemmas.Bool.{leb-true, leb-false}
+use Rattle.std.proofs.lemmas.Int.{ints, to_z-of_z, rem_below}
 use Rattle.value.proofs.Quotient.{nearest_fits, quot_fits, rem_fits, whole, one_away}
 use Rattle.value.proofs.rounding.nearest_narrow.Goals as goal
 
-pub returns-then-half_or_more : goal.returns-then-half_or_more
-returns-then-half_or_more c =
+pub overflow_sub-missing : goal.overflow_sub-missing
+overflow_sub-missing c =
+    let num = c.args.num in
+    let den = c.args.den in
+    let n = c.ranges.num in
+    let d = c.ranges.den in
+    let m = rem_fits w64 num den n in
+    let a = simp to_z-of_z at c.unsigned_abs.ensures.value in
+    let b = simp to_z-of_z at c.unsigned_abs-rest.ensures.value in
+    omega (arith, ints, a, b, rem_below num den (omega (arith, ints)))
+
+pub returns-then-missing-rest : goal.returns-then-missing-rest
+returns-then-missing-rest c =
     let num = c.args.num in
     let den = c.args.den in
     let n = c.ranges.num in
@@ -16,16 +26,15 @@ returns-then-half_or_more c =
     let m = rem_fits w64 num den n in
     let a = simp to_z-of_z at c.unsigned_abs.ensures.value in
     let b = simp to_z-of_z at c.unsigned_abs-rest.ensures.value in
-    let t = leb-true c.from-2.result (2 * c.from.result) (sym c.half_or_more.ensures ∙ c.if-half_or_more.true) in
-    let e = one_away num den c.requires (omega (arith, a, b, c.from.ensures, c.from-2.ensures)) in
+    let e = one_away num den c.requires (omega (arith, a, b)) in
     let sum : SFits w64 (quot_z num den +ℤ int_signum num) = subst (SFits w64) (sym e) (nearest_fits w64 num den n) in
     let g : SFits w64 c.signum.result = record { sfits = c.signum.type_inv } in
     let s = simp to_z-of_z at c.signum.ensures.value in
     let i : SFits w64 (int_signum num) = subst (SFits w64) s g in
     simp (to_z-of_z, s) e
 
-pub returns-else-half_or_more : goal.returns-else-half_or_more
-returns-else-half_or_more c =
+pub returns-else-missing-rest : goal.returns-else-missing-rest
+returns-else-missing-rest c =
     let num = c.args.num in
     let den = c.args.den in
     let n = c.ranges.num in
@@ -34,5 +43,4 @@ returns-else-half_or_more c =
     let m = rem_fits w64 num den n in
     let a = simp to_z-of_z at c.unsigned_abs.ensures.value in
     let b = simp to_z-of_z at c.unsigned_abs-rest.ensures.value in
-    let t = leb-false c.from-2.result (2 * c.from.result) (sym c.half_or_more.ensures ∙ c.if-half_or_more.false) in
-    simp to_z-of_z (whole num den c.requires (omega (arith, a, b, c.from.ensures, c.from-2.ensures)))
+    simp to_z-of_z (whole num den c.requires (omega (arith, a, b)))
