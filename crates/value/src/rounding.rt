@@ -10,26 +10,15 @@ fn half_or_more(rest: u128, den: u128) -> bool
     den.saturating_sub(rest) <= rest
 }
 
-// The nearest whole number in 64 bits, for which a processor divides by itself.
-fn nearest_narrow(num: i64, den: i64) -> i64
-    requires { pos 0 <ℤ den }
-    ensures { result ≡ nearest num den }
+// The nearest whole number to num / den, halves away from zero; 0 where the divisor is not above 0.
+pub fn nearest(num: i128, den: i128) -> i128
+    ensures value { result ≡ nearest num den }
+    ensures close { pos 0 <ℤ den → Rounded num den result }
+    ensures size { unsigned_abs result ≤ unsigned_abs num }
 {
-    let whole = num / den;
-    let rest = (num % den).unsigned_abs();
-    let missing = den.unsigned_abs() - rest;
-    if missing <= rest {
-        whole + num.signum()
-    } else {
-        whole
+    if den <= 0 {
+        return 0;
     }
-}
-
-// The same in 128 bits.
-fn nearest_wide(num: i128, den: i128) -> i128
-    requires { pos 0 <ℤ den }
-    ensures { result ≡ nearest num den }
-{
     let whole = num / den;
     let rest = (num % den).unsigned_abs();
     if half_or_more(rest, den.unsigned_abs()) {
@@ -39,18 +28,19 @@ fn nearest_wide(num: i128, den: i128) -> i128
     }
 }
 
-// The nearest whole number to num / den, halves away from zero; 0 where the divisor is not above 0.
-// Loads and divisors of a scale have room in 64 bits, and larger ones are rare.
-pub fn nearest(num: i128, den: i128) -> i128
-    ensures value { result ≡ nearest num den }
-    ensures close { pos 0 <ℤ den → Rounded num den result }
-    ensures size { unsigned_abs result ≤ unsigned_abs num }
+// The same in 64 bits, which a processor divides by itself.
+pub(crate) fn nearest_narrow(num: i64, den: i64) -> i64
+    ensures { result ≡ nearest num den }
 {
     if den <= 0 {
         return 0;
     }
-    match (i64::try_from(num), i64::try_from(den)) {
-        (Ok(num), Ok(den)) => i128::from(nearest_narrow(num, den)),
-        _ => nearest_wide(num, den),
+    let whole = num / den;
+    let rest = (num % den).unsigned_abs();
+    let missing = den.unsigned_abs() - rest;
+    if missing <= rest {
+        whole + num.signum()
+    } else {
+        whole
     }
 }

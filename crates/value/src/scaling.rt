@@ -3,7 +3,7 @@ ghost use Rattle.std.specs.Prelude.{◌≡◌, ◌^◌, ◌<◌, ◌≤◌, pos,
 ghost use Rattle.value.specs.Rounding.{nearest, Rounded};
 ghost use Rattle.value.specs.Scaled.{scaled, in_digits, Shown};
 
-use crate::rounding::nearest;
+use crate::rounding::{nearest, nearest_narrow};
 
 // Loads are kept in this fraction of a digit.
 pub const PER_DIGIT: i64 = 16_000;
@@ -25,12 +25,19 @@ fn steps(num: i64, full: u32, span: i64, step: u8) -> i128
 }
 
 // The value shown for the load `num` of a span, where the whole span shows `full`: in whole steps,
-// rounded once at the end.
+// rounded once at the end. The products of a scale's loads have room in 64 bits.
 pub fn shown(num: i64, full: u32, span: i64, step: u8) -> i128
     ensures value { result ≡ scaled num full span step }
     ensures close { pos 0 <ℤ span → 0 < step → Shown num full span step result }
 {
-    times(steps(num, full, span, step), step as u32)
+    let product = num.checked_mul(i64::from(full));
+    let divisor = span.checked_mul(i64::from(step));
+    match (product, divisor) {
+        (Some(product), Some(divisor)) => {
+            times(nearest_narrow(product, divisor) as i128, step as u32)
+        }
+        _ => times(steps(num, full, span, step), step as u32),
+    }
 }
 
 // A load in 1/16,000 digit, rounded to whole digits.
@@ -38,5 +45,5 @@ pub fn whole_digits(load: i64) -> i64
     ensures value { result ≡ in_digits load }
     ensures close { Rounded load (pos 16000) result }
 {
-    nearest(load as i128, PER_DIGIT as i128) as i64
+    nearest_narrow(load, PER_DIGIT)
 }

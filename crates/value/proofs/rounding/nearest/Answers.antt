@@ -1,9 +1,11 @@
-use Rattle.std.proofs.Common.{◌≡◌, ◌≤◌, ℤ, pos, nat_abs, ◌≤ℤ◌, ◌<ℤ◌, sym, ◌∙◌, subst, arith, w64, SFits}
-use lib.Signed.{clash_ℤ}
+use Rattle.std.proofs.Common.{◌≡◌, ◌*◌, ◌≤◌, ℤ, pos, ◌+ℤ◌, nat_abs, ◌≤ℤ◌, ◌<ℤ◌, sym, ◌∙◌, subst, arith, SFits}
+use lib.Signed.{quot_z, clash_ℤ}
 use mir.Syntax.{w128}
+use Rattle.std.specs.Int.{int_signum}
 use Rattle.std.proofs.lemmas.Int.{ints, to_z-of_z}
+use Rattle.std.proofs.lemmas.Bool.{leb-true, leb-false}
 use Rattle.value.specs.Rounding.{nearest, Rounded}
-use Rattle.value.proofs.Quotient.{rounded, nearest_none, nearest_fits, nearest_le}
+use Rattle.value.proofs.Quotient.{rounded, nearest_none, nearest_fits, nearest_le, quot_fits, rem_fits, whole, one_away}
 use Rattle.value.proofs.rounding.nearest.Goals as goal
 
 -- what is equal to the nearest number is one that rounds, and no larger than the dividend
@@ -20,30 +22,37 @@ returns-then-den-le0 c =
     let none : c.args.den ≤ℤ pos 0 = omega (arith, ints) in
     record { value = nearest_none c.args.num c.args.den none; close = λ h. clash_ℤ h none; size = omega arith }
 
-pub returns-in-Ok-Ok : goal.returns-in-Ok-Ok
-returns-in-Ok-Ok c =
+pub returns-then-half_or_more : goal.returns-then-half_or_more
+returns-then-half_or_more c =
     let num = c.args.num in
     let den = c.args.den in
     let n = c.ranges.num in
     let d = c.ranges.den in
     let p : pos 0 <ℤ den = omega (arith, ints) in
-    let q : SFits w128 c.from.result = record { sfits = c.from.type_inv } in
-    let r : SFits w64 c.nearest_narrow.result = record { sfits = c.nearest_narrow.type_inv } in
-    let a = simp to_z-of_z at c.in-Ok-Ok.ensures in
-    let b = simp to_z-of_z at c.in-Ok-Ok.ensures' in
-    let same : (c.in-Ok-Ok.num ≡ num) × (c.in-Ok-Ok.den ≡ den) = (a.1, b.1) in
-    let m : SFits w64 c.in-Ok-Ok.num = subst (SFits w64) (sym a.1) a.0 in
-    let e : SFits w64 c.in-Ok-Ok.den = subst (SFits w64) (sym b.1) b.0 in
-    let f = found num den c.from.result p ((simp to_z-of_z at c.from.ensures) ∙ (simp to_z-of_z at c.nearest_narrow.ensures) ∙ (λ i. nearest (same.0 i) (same.1 i))) in
-    record { value = simp to_z-of_z f.value; close = simp to_z-of_z f.close; size = simp to_z-of_z f.size }
+    let q = quot_fits w128 num den p n in
+    let m = rem_fits w128 num den n in
+    let a = simp to_z-of_z at c.unsigned_abs.ensures.value in
+    let b = simp to_z-of_z at c.unsigned_abs-rest.ensures.value in
+    let t = leb-true c.unsigned_abs.result (2 * c.unsigned_abs-rest.result) (sym c.half_or_more.ensures ∙ c.if-half_or_more.true) in
+    let e = one_away num den p (omega (arith, a, b)) in
+    let sum : SFits w128 (quot_z num den +ℤ int_signum num) = subst (SFits w128) (sym e) (nearest_fits w128 num den n) in
+    let g : SFits w128 c.signum.result = record { sfits = c.signum.type_inv } in
+    let s = simp to_z-of_z at c.signum.ensures.value in
+    let i : SFits w128 (int_signum num) = subst (SFits w128) s g in
+    let f = found num den (quot_z num den +ℤ int_signum num) p e in
+    record { value = simp (to_z-of_z, s) f.value; close = simp (to_z-of_z, s) f.close; size = simp (to_z-of_z, s) f.size }
 
-pub returns-in_default : goal.returns-in_default
-returns-in_default c =
+pub returns-else-half_or_more : goal.returns-else-half_or_more
+returns-else-half_or_more c =
     let num = c.args.num in
     let den = c.args.den in
     let n = c.ranges.num in
     let d = c.ranges.den in
     let p : pos 0 <ℤ den = omega (arith, ints) in
-    let q : SFits w128 c.nearest_wide.result = record { sfits = c.nearest_wide.type_inv } in
-    let f = found num den c.nearest_wide.result p (simp to_z-of_z at c.nearest_wide.ensures) in
+    let q = quot_fits w128 num den p n in
+    let m = rem_fits w128 num den n in
+    let a = simp to_z-of_z at c.unsigned_abs.ensures.value in
+    let b = simp to_z-of_z at c.unsigned_abs-rest.ensures.value in
+    let t = leb-false c.unsigned_abs.result (2 * c.unsigned_abs-rest.result) (sym c.half_or_more.ensures ∙ c.if-half_or_more.false) in
+    let f = found num den (quot_z num den) p (whole num den p (omega (arith, a, b))) in
     record { value = simp to_z-of_z f.value; close = simp to_z-of_z f.close; size = simp to_z-of_z f.size }
