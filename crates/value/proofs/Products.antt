@@ -1,10 +1,10 @@
 -- Products of signed numbers, and the step taken out of a rounded quotient. Assumes nothing.
-use Rattle.std.proofs.Common.{◌≡◌, ℕ, suc, ◌*◌, ◌^◌, ◌<◌, ◌≤◌, ℤ, pos, negsuc, ◌-ℤ◌, ◌*ℤ◌, neg_ℤ, nat_abs, ◌<ℤ◌, sym, refl, ap, ◌∙◌, subst, mul_assoc, mul_comm, arith, w64, SFits}
+use Rattle.std.proofs.Common.{◌≡◌, ℕ, suc, ◌*◌, ◌^◌, ◌<◌, ◌≤◌, ℤ, pos, negsuc, ◌-ℤ◌, ◌*ℤ◌, neg_ℤ, nat_abs, ◌<ℤ◌, sym, refl, ap, ◌∙◌, subst, mul_assoc, mul_comm, arith}
 use Rattle.std.proofs.lemmas.Int.{ints}
 use Rattle.std.proofs.lemmas.Nat.{mul-le, mul-lt}
-use Rattle.value.specs.Rounding.{near, nearest}
-use Rattle.value.specs.Scaled.{scaled, in_digits, Shown}
-use Rattle.value.proofs.Quotient.{abs_neg, below, near_law, near_le, nearest_le, neg_fits}
+use Rattle.value.specs.Rounding.{nearest}
+use Rattle.value.specs.Scaled.{scaled, Shown}
+use Rattle.value.proofs.Quotient.{abs_neg, below, near_law, nearest_le}
 
 pub abs_times : (x y : ℤ) → nat_abs (x *ℤ y) ≡ nat_abs x * nat_abs y
 abs_times (pos m) (pos n) = refl
@@ -36,9 +36,3 @@ shown_law num n (negsuc s) t h k = absurd h.lt
 pub steps_small : (num : ℤ) (n : ℕ) (den : ℤ) → nat_abs num ≤ 2 ^ 63 → n < 2 ^ 32 → nat_abs (nearest (num *ℤ pos n) den) ≤ 2 ^ 95
 steps_small num n den h k =
     omega (arith, nearest_le (num *ℤ pos n) den, abs_times num (pos n), mul-le (nat_abs num) n (2 ^ 63) (2 ^ 32) h (omega arith))
-
--- a load of 64 bits in whole digits
-pub digits_fit : (load : ℤ) → SFits w64 load → SFits w64 (in_digits load)
-unfolding in_digits nearest
-digits_fit (pos n) f = record { sfits = omega (arith, f.sfits, near_le n 16000) }
-digits_fit (negsuc n) f = record { sfits = omega (arith, f.sfits, neg_fits (near (suc n) 16000) n (near_le (suc n) 16000)) }
