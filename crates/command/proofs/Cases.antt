@@ -10,7 +10,7 @@ use Rattle.command.specs.Cuts.{other}
 use Rattle.command.specs.Readings.{sense_of, sensed, selects, select_of}
 use Rattle.command.specs.Spellings.{ReadsAlike}
 use Rattle.command.specs.Table.{rows, lookup}
-use Rattle.command.proofs.Gaps.{clean}
+use Rattle.command.specs.Understood.{clean}
 use Rattle.command.proofs.Spelled.{bare, chosen, orderly, summary, spelled_is}
 
 upper_twice : (b : ℕ) → to_ascii_uppercase b ≡ to_ascii_uppercase (to_ascii_uppercase b)

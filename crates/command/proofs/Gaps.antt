@@ -1,6 +1,6 @@
 -- Blanks at the ends of bytes. Assumes nothing.
 use Rattle.std.proofs.Common.{◌≡◌, ℕ, ◌+◌, ◌-◌, ◌<◌, Bool, true, false, cond, not, ◌&&◌, ltb, List, [], ◌∷◌, ◌++◌, reverse, length, take, drop, is_some, Some, None, sym, refl, ap, ◌∙◌, one-add, arith}
-use Rattle.std.specs.List.{prefix_len, suffix_len, list_all}
+use Rattle.std.specs.List.{prefix_len, suffix_len}
 use Rattle.std.proofs.lemmas.List.{append-nil, append_assoc, reverse-append, length-append, length-reverse, take-append-le, take_all}
 use Rattle.std.proofs.lemmas.List.Sums.{prefix_len-le-length}
 use Rattle.std.proofs.lemmas.Bool.{cond-true, cond-false}
@@ -8,6 +8,7 @@ use Rattle.std.proofs.lemmas.Bool.Decides.{nat_tests}
 use Rattle.command.specs.Blanks.{blank, skipped, chopped}
 use Rattle.command.specs.Cuts.{other, first_of}
 use Rattle.command.specs.Spellings.{Gap}
+use Rattle.command.specs.Understood.{clean}
 use Rattle.command.proofs.Fronts.{all_front}
 
 -- leading blanks are skipped
@@ -55,10 +56,7 @@ front_none (b ∷ xs) ys h e = none (blank b) (prefix_len blank xs) (prefix_len 
 pub closed_append : (x y : List ℕ) → 0 < length y → suffix_len blank y ≡ 0 → suffix_len blank (x ++ y) ≡ 0
 closed_append x y h e = ap (prefix_len blank) (reverse-append x y) ∙ front_none (reverse y) (reverse x) (omega (arith, length-reverse y)) e
 
--- no byte that holds or resumes the flow stands there
-abbrev pub clean : List ℕ → Bool
-clean t = list_all (other 17 19) t
-
+-- a gap changes nothing of whether a byte that holds or resumes the flow stands there
 pub clean_gap : (g t : List ℕ) → Gap g → clean (g ++ t) ≡ clean t
 clean_gap [] t h = refl
 clean_gap (b ∷ g) t h = ap (λ x. x && clean (g ++ t)) h.0.1 ∙ clean_gap g t h.1

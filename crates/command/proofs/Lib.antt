@@ -11,3 +11,6 @@ mod Spelled
 mod Cases
 mod Written
 mod Meant
+mod Clean
+mod Tidy
+mod Flows

@@ -1,9 +1,11 @@
 -- The row with given initials, looked for row by row, and the table as a whole. Assumes nothing.
-use Rattle.std.proofs.Common.{◌≡◌, ℕ, cond, List, [], ◌∷◌, Some, refl, ap}
+use Rattle.std.proofs.Common.{◌≡◌, ℕ, ◌<◌, cond, List, [], ◌∷◌, length, take, Some, None, refl, ap, arith}
 use Rattle.std.specs.List.{find}
 use Rattle.command.specs.declared.orders.Mnemonic.{Mnemonic}
 use Rattle.command.specs.declared.orders.Mnemonic.TheVariants.{Cof, Icr, Nov, Rsn, Ldw, Lwt, Tar, Tas, Tav, Msv, Spw, Dpw, Tdd, Res, Esr}
+use Rattle.command.specs.declared.orders.Form.{Form}
 use Rattle.command.specs.declared.table.Row.{Row}
+use Rattle.command.specs.Readings.{sense_of}
 use Rattle.command.specs.Table.{rows, row_of, lookup, alike, WholeTable}
 
 -- what is looked for row by row is the first row that is found
@@ -32,3 +34,11 @@ found Esr = (refl, refl)
 
 pub whole_table : WholeTable
 whole_table = (refl, found)
+
+-- fewer than three bytes are no initials
+pub short_sense : (s : List ℕ) (f : Form) → length s < 3 → sense_of (take 3 s) f ≡ None
+unfolding lookup sense_of
+short_sense [] f h = refl
+short_sense (a ∷ []) f h = refl
+short_sense (a ∷ b ∷ []) f h = refl
+short_sense (a ∷ b ∷ c ∷ s) f h = absurd (omega arith)

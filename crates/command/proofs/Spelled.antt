@@ -19,8 +19,9 @@ use Rattle.command.specs.Arguments.{argument_of}
 use Rattle.command.specs.Blanks.{blank, skipped, chopped, trimmed}
 use Rattle.command.specs.Cuts.{other, first_of}
 use Rattle.command.specs.Readings.{initials_of, behind_of, asks, form_of, parameter_of, place_of, sense_of, filled, ordered, order_of, selects, select_of, commanded, selected, allowed, reading}
+use Rattle.command.specs.Understood.{clean}
 use Rattle.command.specs.Spellings.{Spelling, mark, spelled, Gap, Unasked, Sound, unplaced}
-use Rattle.command.proofs.Gaps.{skip_gap, skip_none, skip_all, chop_closed, chop_gap, closed_push, closed_append, clean, clean_gap, flow_of}
+use Rattle.command.proofs.Gaps.{skip_gap, skip_none, skip_all, chop_closed, chop_gap, closed_push, closed_append, clean_gap, flow_of}
 
 -- a byte at the front is no blank
 head_none : (b : ℕ) (t : List ℕ) → prefix_len blank (b ∷ t) ≡ 0 → blank b ≡ false

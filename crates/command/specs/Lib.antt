@@ -5,6 +5,7 @@ pub mod Texts
 pub mod Table
 pub mod Arguments
 pub mod Readings
+pub mod Understood
 pub mod Conditions
 pub mod Examples
 pub mod Spellings

@@ -1,78 +1,61 @@
 // Reads one command, all its bytes.
 ghost use Rattle.std.specs.Prelude.{◌≡◌, ◌≤◌, length};
-ghost use Rattle.command.specs.Readings.{initials_of, form_of, rest_of, sense_of, order_of, select_of, checked, reading};
+ghost use Rattle.command.specs.Cuts.{first_of};
+ghost use Rattle.command.specs.Readings.{sense_of, select_of, checked, reading};
+ghost use Rattle.command.specs.Understood.{past, form_at, rest_at, order_at, blamed, understood as understood_of};
 ghost use Rattle.command.specs.Spellings.{ReadsAlike};
 ghost use Rattle.command.specs.Table.{WholeTable};
 
 use crate::arguments::argument_in;
-use crate::blanks::{chop, part, skip, trim};
+use crate::blanks::{chop, skip};
 use crate::cut::position;
 use crate::orders::{Form, Heard, Mnemonic, Order};
-use crate::table::{Kind, find, kind_of};
+use crate::table::{Kind, find};
 use fault::{Cause, Fault};
 
 // A command has at most this many bytes.
 const LONGEST: usize = 64;
 
 // The bytes that hold and resume the flow of the line: no command has one.
-const XON: u8 = 0x11;
+pub(crate) const XON: u8 = 0x11;
 
-const XOFF: u8 = 0x13;
+pub(crate) const XOFF: u8 = 0x13;
 
-// The parts of a command: its initials, whether it asks, and the rest from the first byte of its parameter.
-#[derive(Clone, Copy)]
-struct Parts<'a> {
-    initials: &'a [u8],
-    form: Form,
-    rest: &'a [u8],
-}
-
-// Takes a command apart; blanks may stand around each part.
-fn taken_apart(command: &[u8]) -> Parts<'_>
-    ensures initials { result.initials.now ≡ initials_of command.now }
-    ensures form { result.form ≡ form_of command.now }
-    ensures rest { result.rest.now ≡ rest_of command.now }
-    ensures within { length result.rest.now ≤ length command.now }
+// Whether a command asks, and its rest from the first byte of its parameter, by what stands behind its initials.
+fn asked(behind: &[u8]) -> (Form, &[u8])
+    ensures form { result.0 ≡ form_at (past behind.now) }
+    ensures rest { result.1.now ≡ rest_at (past behind.now) }
+    ensures within { length result.1.now ≤ length behind.now }
 {
-    let (initials, tail) = part(skip(command), 3);
-    match skip(tail) {
-        [b'?', rest @ ..] => Parts {
-            initials,
-            form: Form::Query,
-            rest: skip(rest),
-        },
-        rest => Parts {
-            initials,
-            form: Form::Entry,
-            rest,
-        },
+    match skip(behind) {
+        [b'?', rest @ ..] => (Form::Query, skip(rest)),
+        rest => (Form::Entry, rest),
     }
 }
 
 // The command with these initials and what its form takes; none where the initials are unknown or it has no such form.
 #[tactic(auto, unfolding(crate::specs::Readings::sense_of))]
-fn sense(initials: &[u8], form: Form) -> Option<(Mnemonic, Kind)>
-    ensures { result ≡ sense_of initials.now form }
+fn sense(initials: [u8; 3], form: Form) -> Option<(Mnemonic, Kind)>
+    ensures { result ≡ sense_of initials form }
 {
     let row = find(initials)?;
-    let kind = kind_of(row, form)?;
+    let kind = row.kind(form)?;
     Some((row.name, kind))
 }
 
-// Reads a command that is neither blank nor a select.
-#[tactic(auto, unfolding(crate::specs::Readings::order_of))]
-fn order_in(command: &[u8]) -> Result<Order, Fault>
-    ensures { result ≡ order_of command.now }
+// Reads a command that is neither blank nor a select: `start` is the part behind its leading blanks, and `whole` counts all its bytes.
+#[tactic(auto, using(crate::proofs::Rows::short_sense), unfolding(crate::specs::Understood::order_at))]
+fn order_in(whole: usize, start: &[u8]) -> Result<Order, Fault>
+    requires { length start.now ≤ whole }
+    ensures { result ≡ order_at whole start.now }
 {
-    let Parts {
-        initials,
-        form,
-        rest,
-    } = taken_apart(command);
-    let Some((name, kind)) = sense(initials, form) else {
-        return Err(Cause::UnknownCommand.at(command.len() - skip(command).len()));
+    let unknown = Cause::UnknownCommand.at(whole - start.len());
+    let [x, y, z, behind @ ..] = start else {
+        return Err(unknown);
     };
-    let place = command.len() - rest.len();
+    let (form, rest) = asked(behind);
+    let (name, kind) = sense([*x, *y, *z], form).ok_or(unknown)?;
+    let place = whole - rest.len();
     let argument = argument_in(kind, chop(rest)).map_err(|cause| cause.at(place))?;
     Ok(Order {
         name,
@@ -94,24 +77,42 @@ fn select_in(bytes: &[u8]) -> Option<u8>
     }
 }
 
-// What the bytes of one command are, or the refusal of the first check that fails.
-fn heard_in(command: &[u8]) -> Result<Heard, Fault>
-    ensures { result ≡ checked command.now }
+// What the bytes of one command are, where a byte that holds or resumes the flow is no blank.
+#[tactic(auto, unfolding(crate::specs::Understood::understood))]
+fn understood(command: &[u8]) -> Result<Heard, Fault>
+    ensures { result ≡ understood_of command.now }
 {
-    if command.len() > LONGEST {
-        return Err(Cause::LongCommand.at(LONGEST));
-    }
-    if let Some(place) = position(command, XON, XOFF) {
-        return Err(Cause::UnknownCommand.at(place));
-    }
-    let bytes = trim(command);
+    let start = skip(command);
+    let bytes = chop(start);
     if bytes.is_empty() {
         return Ok(Heard::Blank);
     }
     if let Some(pair) = select_in(bytes) {
         return Ok(Heard::Select(pair));
     }
-    Ok(Heard::Command(order_in(command)?))
+    Ok(Heard::Command(order_in(command.len(), start)?))
+}
+
+// Why a command is refused: its first byte that holds or resumes the flow, or else what `fault` says.
+fn refusal(command: &[u8], fault: Fault) -> Fault
+    ensures { result ≡ blamed (first_of 17 19 command.now) fault }
+{
+    match position(command, XON, XOFF) {
+        Some(place) => Cause::UnknownCommand.at(place),
+        None => fault,
+    }
+}
+
+// What the bytes of one command are, or the refusal of the first check that fails. A byte that holds or resumes the flow
+// stands in nothing that is understood, so only a refused command is searched for one.
+#[tactic(auto, using(crate::proofs::Flows::checked_is))]
+fn heard_in(command: &[u8]) -> Result<Heard, Fault>
+    ensures { result ≡ checked command.now }
+{
+    if command.len() > LONGEST {
+        return Err(Cause::LongCommand.at(LONGEST));
+    }
+    understood(command).map_err(|fault| refusal(command, fault))
 }
 
 // Reads one command, all its bytes.

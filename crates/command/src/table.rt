@@ -1,7 +1,10 @@
 // The constant table of commands: initials, parameter kind of each form, limits and password need.
 ghost use Rattle.std.specs.Prelude.{◌≡◌, ◌<◌, true, ℤ, FitsSigned};
 ghost use Rattle.std.specs.Int.{w32};
+ghost use Rattle.std.specs.Option.{option_map};
+ghost use Rattle.std.specs.Borrow.{Bor};
 ghost use Rattle.command.specs.Arguments.{admits};
+ghost use Rattle.command.specs.declared.table.Row.{Row as TheRow};
 ghost use Rattle.command.specs.Table.{rows as commands, row_of, place_of, alike as alike_of, lookup, kind_of};
 
 use crate::orders::{Form, Mnemonic};
@@ -196,28 +199,23 @@ fn table() -> &'static [Row; 15]
     &ROWS
 }
 
-// Whether `bytes` are three initials, in either case.
-fn alike(initials: [u8; 3], bytes: &[u8]) -> bool
-    ensures { result ≡ alike_of initials bytes.now }
+// Whether two times three initials are the same, where the second may have either case.
+fn alike(initials: [u8; 3], other: [u8; 3]) -> bool
+    ensures { result ≡ alike_of initials other }
 {
-    match bytes {
-        [x, y, z] => initials == [x, y, z].map(|b| b.to_ascii_uppercase()),
-        _ => false,
-    }
+    initials == other.map(|b| b.to_ascii_uppercase())
 }
 
 // The first of some rows with these initials, in either case.
-fn find_in(rows: &[Row], initials: &[u8]) -> Option<Row>
-    ensures { result ≡ lookup rows.now initials.now }
+fn find_in(rows: &[Row], initials: [u8; 3]) -> Option<&Row>
+    ensures { option_map (λ (r : Bor TheRow). r.now) result ≡ lookup rows.now initials }
 {
-    rows.iter()
-        .find(|row| alike(row.initials, initials))
-        .copied()
+    rows.iter().find(|row| alike(row.initials, initials))
 }
 
 // The row with these initials, in either case.
-pub(crate) fn find(initials: &[u8]) -> Option<Row>
-    ensures { result ≡ lookup commands initials.now }
+pub(crate) fn find(initials: [u8; 3]) -> Option<&'static Row>
+    ensures { option_map (λ (r : Bor TheRow). r.now) result ≡ lookup commands initials }
 {
     find_in(table(), initials)
 }
@@ -231,18 +229,20 @@ fn place(name: Mnemonic) -> usize
 }
 
 // The row of a command.
-pub(crate) fn row_of(name: Mnemonic) -> Row
-    ensures { result ≡ row_of name }
+pub(crate) fn row_of(name: Mnemonic) -> &'static Row
+    ensures { result.now ≡ row_of name }
 {
-    table()[place(name)]
+    &table()[place(name)]
 }
 
-// What the command of a row takes in a form, if it has that form.
-pub(crate) fn kind_of(row: Row, form: Form) -> Option<Kind>
-    ensures { result ≡ kind_of row form }
-{
-    match form {
-        Form::Entry => row.entry,
-        Form::Query => row.query,
+impl Row {
+    // What the command takes in a form, if it has that form.
+    pub(crate) fn kind(&self, form: Form) -> Option<Kind>
+        ensures { result ≡ kind_of self.now form }
+    {
+        match form {
+            Form::Entry => self.entry,
+            Form::Query => self.query,
+        }
     }
 }

@@ -8,7 +8,6 @@ use Rattle.command.proofs.table.find_in.Goals as goal
 
 pub returns : goal.returns
 returns c =
-    let q = c.args.initials.now in
-    c.copied.ensures
-    ∙ find_from_yields_List (λ (r : Row). alike r.initials q) _ _ _ c.find.ensures.ran (YieldsList-from_slice c.args.rows.now cc) (λ x b q k. search (rules, tests))
+    let q = c.args.initials in
+    find_from_yields_List (λ (r : Row). alike r.initials q) _ _ _ c.find.ensures.ran (YieldsList-from_slice c.args.rows.now cc) (λ x b q k. search (rules, tests))
     ∙ find_is c.args.rows.now q
