@@ -1,11 +1,11 @@
 -- A byte that holds or resumes the flow stands in nothing that is understood. Assumes nothing.
 use Rattle.std.proofs.Common.{◌≡◌, ℕ, ◌-◌, Bool, true, false, cond, not, eqb, ltb, List, length, take, drop, is_some, Some, None, Ok, Err, Option, Result, sym, refl, ap, ◌∙◌}
 use Rattle.std.proofs.lemmas.List.{nil_from_length}
-use Rattle.std.proofs.lemmas.Bool.{cond-false, eqb-true, and_parts, and_from, both_ways}
+use Rattle.std.proofs.lemmas.Bool.{eqb-true, and_parts, and_from, both_ways}
 use Rattle.fault.specs.declared.faults.Fault.{Fault}
 use Rattle.fault.specs.Faults.{refusal}
 use Rattle.fault.specs.declared.causes.Cause.{Cause}
-use Rattle.fault.specs.declared.causes.Cause.TheVariants.{UnknownCommand}
+use Rattle.fault.specs.declared.causes.Cause.TheVariants.{UnknownCommand, LongCommand}
 use Rattle.command.specs.declared.orders.Argument.{Argument}
 use Rattle.command.specs.declared.orders.Form.{Form}
 use Rattle.command.specs.declared.orders.Heard.{Heard}
@@ -15,7 +15,7 @@ use Rattle.command.specs.declared.table.Kind.{Kind}
 use Rattle.command.specs.Arguments.{argument_of}
 use Rattle.command.specs.Blanks.{skipped, chopped, trimmed}
 use Rattle.command.specs.Cuts.{first_of}
-use Rattle.command.specs.Readings.{asks, behind_of, rest_of, parameter_of, sense_of, filled, ordered, order_of, select_of, commanded, selected, allowed, checked}
+use Rattle.command.specs.Readings.{asks, behind_of, rest_of, parameter_of, sense_of, filled, ordered, order_of, select_of, commanded, selected, allowed, reading}
 use Rattle.command.specs.Understood.{clean, past, closed, form_at, rest_at, placed, order_at, picked, understood, answered}
 use Rattle.command.proofs.Clean.{clean_cut, clean_past, clean_closed, clean_parts, past_is, closed_chops}
 use Rattle.command.proofs.Gaps.{flow_of}
@@ -117,5 +117,6 @@ answered_is c None r h e = kept r ∙ sym h ∙ clean_is c (cleared (clean c) e)
 answered_is c (Some place) (Err f) h e = refl
 answered_is c (Some place) (Ok x) h e = absurd (both_ways true (e ∙ ap not (understood_clean c x h)) refl)
 
-pub checked_is : (c : List ℕ) → ltb 64 (length c) ≡ false → checked c ≡ answered (first_of 17 19 c) (understood c)
-checked_is c h = cond-false _ _ _ h ∙ sym (answered_is c (first_of 17 19 c) (understood c) refl (flow_of c))
+pub reading_is : (c : List ℕ) → reading c ≡ cond (ltb 64 (length c)) (Err (refusal LongCommand 64)) (answered (first_of 17 19 c) (understood c))
+unfolding reading
+reading_is c = ap (λ r. cond (ltb 64 (length c)) (Err (refusal LongCommand 64)) r) (sym (answered_is c (first_of 17 19 c) (understood c) refl (flow_of c)))

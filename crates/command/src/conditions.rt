@@ -2,8 +2,9 @@
 ghost use Rattle.std.specs.Prelude.{◌≡◌};
 ghost use Rattle.command.specs.Conditions.{zero_given, needed as needed_of, needs_password, above as above_of, broadcast_of};
 
+use crate::lookup::row_of;
 use crate::orders::{Argument, Form, Order};
-use crate::table::{Need, row_of};
+use crate::table::Need;
 use fault::{Cause, Fault};
 
 // Whether the argument is the number 0.

@@ -7,6 +7,7 @@ mod conditions;
 mod cut;
 mod decimal;
 mod examples;
+mod lookup;
 mod orders;
 mod reader;
 mod table;

@@ -1,16 +1,19 @@
 // Reads one command, all its bytes.
-ghost use Rattle.std.specs.Prelude.{◌≡◌, ◌≤◌, length};
+ghost use Rattle.std.specs.Prelude.{◌≡◌, ◌≤◌, ◌-◌, length};
+ghost use Rattle.fault.specs.declared.causes.Cause.TheVariants.{UnknownCommand};
+ghost use Rattle.fault.specs.Faults.{refusal as refusal_of};
 ghost use Rattle.command.specs.Cuts.{first_of};
-ghost use Rattle.command.specs.Readings.{sense_of, select_of, checked, reading};
-ghost use Rattle.command.specs.Understood.{past, form_at, rest_at, order_at, blamed, understood as understood_of};
+ghost use Rattle.command.specs.Readings.{sense_of, select_of, commanded, reading};
+ghost use Rattle.command.specs.Understood.{past, form_at, rest_at, order_at, blamed, answered};
 ghost use Rattle.command.specs.Spellings.{ReadsAlike};
 ghost use Rattle.command.specs.Table.{WholeTable};
 
 use crate::arguments::argument_in;
 use crate::blanks::{chop, skip};
 use crate::cut::position;
+use crate::lookup::find;
 use crate::orders::{Form, Heard, Mnemonic, Order};
-use crate::table::{Kind, find};
+use crate::table::Kind;
 use fault::{Cause, Fault};
 
 // A command has at most this many bytes.
@@ -43,26 +46,52 @@ fn sense(initials: [u8; 3], form: Form) -> Option<(Mnemonic, Kind)>
     Some((row.name, kind))
 }
 
-// Reads a command that is neither blank nor a select: `start` is the part behind its leading blanks, and `whole` counts all its bytes.
-#[tactic(auto, using(crate::proofs::Rows::short_sense), unfolding(crate::specs::Understood::order_at))]
-fn order_in(whole: usize, start: &[u8]) -> Result<Order, Fault>
-    requires { length start.now ≤ whole }
-    ensures { result ≡ order_at whole start.now }
+// Why a command is refused: its first byte that holds or resumes the flow, if there is one, or else what was found.
+#[cold]
+fn refusal(command: &[u8], found: Fault) -> Fault
+    ensures { result ≡ blamed (first_of 17 19 command.now) found }
 {
-    let unknown = Cause::UnknownCommand.at(whole - start.len());
+    match position(command, XON, XOFF) {
+        Some(place) => Cause::UnknownCommand.at(place),
+        None => found,
+    }
+}
+
+// The refusal of a command that is unknown, whose initials begin `start`.
+fn unknown(command: &[u8], start: &[u8]) -> Fault
+    requires { length start.now ≤ length command.now }
+    ensures { result ≡ blamed (first_of 17 19 command.now) (refusal_of UnknownCommand (length command.now - length start.now)) }
+{
+    refusal(
+        command,
+        Cause::UnknownCommand.at(command.len() - start.len()),
+    )
+}
+
+// Reads a command that is neither blank nor a select; `start` is the part behind its leading blanks.
+#[tactic(auto, using(crate::proofs::Rows::short_sense), unfolding(crate::specs::Understood::order_at))]
+fn order_in(command: &[u8], start: &[u8]) -> Result<Heard, Fault>
+    requires { length start.now ≤ length command.now }
+    ensures { result ≡ answered (first_of 17 19 command.now) (commanded (order_at (length command.now) start.now)) }
+{
     let [x, y, z, behind @ ..] = start else {
-        return Err(unknown);
+        return Err(unknown(command, start));
     };
     let (form, rest) = asked(behind);
-    let (name, kind) = sense([*x, *y, *z], form).ok_or(unknown)?;
-    let place = whole - rest.len();
-    let argument = argument_in(kind, chop(rest)).map_err(|cause| cause.at(place))?;
-    Ok(Order {
+    let Some((name, kind)) = sense([*x, *y, *z], form) else {
+        return Err(unknown(command, start));
+    };
+    let place = command.len() - rest.len();
+    let argument = argument_in(kind, chop(rest)).map_err(|cause| refusal(
+        command,
+        cause.at(place),
+    ))?;
+    Ok(Heard::Command(Order {
         name,
         form,
         argument,
         place,
-    })
+    }))
 }
 
 // The pair of digits of a select without the blanks around it: S or s and two digits.
@@ -77,11 +106,17 @@ fn select_in(bytes: &[u8]) -> Option<u8>
     }
 }
 
-// What the bytes of one command are, where a byte that holds or resumes the flow is no blank.
-#[tactic(auto, unfolding(crate::specs::Understood::understood))]
-fn understood(command: &[u8]) -> Result<Heard, Fault>
-    ensures { result ≡ understood_of command.now }
+// Reads one command, all its bytes. A byte that holds or resumes the flow is neither a blank nor a part of anything that
+// is understood, so only a refused command is searched for one.
+#[tactic(auto, using(crate::proofs::Cases::reads_alike, crate::proofs::Rows::whole_table, crate::proofs::Flows::reading_is), unfolding(crate::specs::Understood::understood))]
+pub fn read(command: &[u8]) -> Result<Heard, Fault>
+    ensures value { result ≡ reading command.now }
+    ensures alike { ReadsAlike }
+    ensures table { WholeTable }
 {
+    if command.len() > LONGEST {
+        return Err(Cause::LongCommand.at(LONGEST));
+    }
     let start = skip(command);
     let bytes = chop(start);
     if bytes.is_empty() {
@@ -90,37 +125,5 @@ fn understood(command: &[u8]) -> Result<Heard, Fault>
     if let Some(pair) = select_in(bytes) {
         return Ok(Heard::Select(pair));
     }
-    Ok(Heard::Command(order_in(command.len(), start)?))
-}
-
-// Why a command is refused: its first byte that holds or resumes the flow, or else what `fault` says.
-fn refusal(command: &[u8], fault: Fault) -> Fault
-    ensures { result ≡ blamed (first_of 17 19 command.now) fault }
-{
-    match position(command, XON, XOFF) {
-        Some(place) => Cause::UnknownCommand.at(place),
-        None => fault,
-    }
-}
-
-// What the bytes of one command are, or the refusal of the first check that fails. A byte that holds or resumes the flow
-// stands in nothing that is understood, so only a refused command is searched for one.
-#[tactic(auto, using(crate::proofs::Flows::checked_is))]
-fn heard_in(command: &[u8]) -> Result<Heard, Fault>
-    ensures { result ≡ checked command.now }
-{
-    if command.len() > LONGEST {
-        return Err(Cause::LongCommand.at(LONGEST));
-    }
-    understood(command).map_err(|fault| refusal(command, fault))
-}
-
-// Reads one command, all its bytes.
-#[tactic(auto, using(crate::proofs::Cases::reads_alike, crate::proofs::Rows::whole_table), unfolding(crate::specs::Readings::reading))]
-pub fn read(command: &[u8]) -> Result<Heard, Fault>
-    ensures value { result ≡ reading command.now }
-    ensures alike { ReadsAlike }
-    ensures table { WholeTable }
-{
-    heard_in(command)
+    order_in(command, start)
 }

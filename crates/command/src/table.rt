@@ -1,11 +1,8 @@
 // The constant table of commands: initials, parameter kind of each form, limits and password need.
-ghost use Rattle.std.specs.Prelude.{◌≡◌, ◌<◌, true, ℤ, FitsSigned};
+ghost use Rattle.std.specs.Prelude.{◌≡◌, true, ℤ, FitsSigned};
 ghost use Rattle.std.specs.Int.{w32};
-ghost use Rattle.std.specs.Option.{option_map};
-ghost use Rattle.std.specs.Borrow.{Bor};
 ghost use Rattle.command.specs.Arguments.{admits};
-ghost use Rattle.command.specs.declared.table.Row.{Row as TheRow};
-ghost use Rattle.command.specs.Table.{rows as commands, row_of, place_of, alike as alike_of, lookup, kind_of};
+ghost use Rattle.command.specs.Table.{rows as commands, kind_of};
 
 use crate::orders::{Form, Mnemonic};
 
@@ -193,46 +190,10 @@ const ROWS: [Row; 15] = [
 ];
 
 // The table, row for row as it is defined.
-fn table() -> &'static [Row; 15]
+pub(crate) fn table() -> &'static [Row; 15]
     ensures { result.now ≡ commands }
 {
     &ROWS
-}
-
-// Whether two times three initials are the same, where the second may have either case.
-fn alike(initials: [u8; 3], other: [u8; 3]) -> bool
-    ensures { result ≡ alike_of initials other }
-{
-    initials == other.map(|b| b.to_ascii_uppercase())
-}
-
-// The first of some rows with these initials, in either case.
-fn find_in(rows: &[Row], initials: [u8; 3]) -> Option<&Row>
-    ensures { option_map (λ (r : Bor TheRow). r.now) result ≡ lookup rows.now initials }
-{
-    rows.iter().find(|row| alike(row.initials, initials))
-}
-
-// The row with these initials, in either case.
-pub(crate) fn find(initials: [u8; 3]) -> Option<&'static Row>
-    ensures { option_map (λ (r : Bor TheRow). r.now) result ≡ lookup commands initials }
-{
-    find_in(table(), initials)
-}
-
-// The place of a command's row.
-fn place(name: Mnemonic) -> usize
-    ensures value { result ≡ place_of name }
-    ensures within { result < 15 }
-{
-    name as usize
-}
-
-// The row of a command.
-pub(crate) fn row_of(name: Mnemonic) -> &'static Row
-    ensures { result.now ≡ row_of name }
-{
-    &table()[place(name)]
 }
 
 impl Row {
@@ -240,9 +201,9 @@ impl Row {
     pub(crate) fn kind(&self, form: Form) -> Option<Kind>
         ensures { result ≡ kind_of self.now form }
     {
-        match form {
-            Form::Entry => self.entry,
-            Form::Query => self.query,
+        *match form {
+            Form::Entry => &self.entry,
+            Form::Query => &self.query,
         }
     }
 }
