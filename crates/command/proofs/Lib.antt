@@ -2,6 +2,7 @@ mod Fronts
 mod Splits
 mod Powers
 mod Sizes
+mod Leading
 mod Rows
 mod Options
 mod Quoted

@@ -1,5 +1,5 @@
 -- A number of m units of 10^-places, times 10^e. Assumes nothing.
-use Rattle.std.proofs.Common.{◌≡◌, ℕ, zero, suc, ◌+◌, ◌-◌, ◌*◌, ◌/◌, ◌%◌, ◌^◌, ◌<◌, ◌≤◌, min, cond, eqb, Some, None, Option, sym, ap, ◌∙◌, ⊎_elim, mul_assoc, suc-mul, add-mul, mul-le-mul_left, mul-lt-mul_of_pos_right, zero-mul, mul-div_cancel, arith, lit≤, pow-add}
+use Rattle.std.proofs.Common.{◌≡◌, ℕ, zero, suc, ◌+◌, ◌-◌, ◌*◌, ◌/◌, ◌%◌, ◌^◌, ◌<◌, ◌≤◌, min, cond, eqb, Some, None, Option, sym, ap, ◌∙◌, ⊎_elim, mul_assoc, suc-mul, add-mul, mul-le-mul_left, mul-lt-mul_of_pos_right, zero-mul, mul-one, mul-div_cancel, arith, lit≤, pow-add}
 use native.Mathlib.Nat.{one-le-pow, pow-le-pow_right, mul-mod_left}
 use Rattle.std.proofs.lemmas.Bool.{cases_lt, cases_eq, ne_eqb}
 use Rattle.std.proofs.lemmas.Nat.{div-add-mod', div-mul-add, mod-mul-add, mod_below}
@@ -23,6 +23,11 @@ size_up m places e h =
     let pow = ap (λ n. 10 ^ n) sum ∙ pow-add 10 (e - places) places in
     let same = ap (λ n. m * n) pow ∙ sym (mul_assoc m (10 ^ (e - places)) (10 ^ places)) in
     ap (λ n. whole n (10 ^ places)) same ∙ whole_mul (m * 10 ^ (e - places)) (10 ^ places) (tens places)
+
+pub size_same : (m places e : ℕ) → places ≡ e → size m places e ≡ Some m
+size_same m places e h =
+    let none : e - places ≡ 0 = omega arith in
+    size_up m places e (omega arith) ∙ ap (λ n. Some (m * 10 ^ n)) none ∙ ap Some (mul-one m)
 
 eqb_mul : (r n : ℕ) → 0 < n → eqb (r * n) 0 ≡ eqb r 0
 eqb_mul zero n h = ap (λ b. eqb b 0) (zero-mul n)

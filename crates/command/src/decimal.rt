@@ -4,7 +4,7 @@ ghost use Rattle.std.specs.Option.{option_map};
 ghost use Rattle.std.specs.Char.{is_ascii_digit};
 ghost use Rattle.std.specs.List.{prefix_len};
 ghost use Rattle.command.specs.Meanings.{ExactValue};
-ghost use Rattle.command.specs.Numbers.{more, front, back, numeral, short as short_of, power_of, powered as powered_of, fraction as fraction_of, unsigned as unsigned_of, signed as signed_of, sign as sign_of, size as size_of, number_of, capped, clamped};
+ghost use Rattle.command.specs.Numbers.{more, front, back, numeral, power_of, powered as powered_of, fraction as fraction_of, unsigned as unsigned_of, signed as signed_of, sign as sign_of, size as size_of, number_of, capped, clamped};
 
 // A number has at most this many bytes.
 const LONGEST: usize = 10;
@@ -24,53 +24,34 @@ pub(crate) struct Numeral {
     pub exponent: u32,
 }
 
-// How many digits `text` begins with.
-fn digits_len(text: &[u8]) -> usize
-    ensures value { result ≡ prefix_len is_ascii_digit text.now }
-    ensures within { result ≤ length text.now }
-{
-    text.iter().take_while(|b| b.is_ascii_digit()).count()
-}
-
-// The digits that `text` begins with, and what follows them.
-fn leading_digits(text: &[u8]) -> (&[u8], &[u8])
-    ensures digits { result.0.now ≡ front text.now }
+// The number that the leading digits of `text` write behind those of `start`, and what follows them.
+#[tactic(auto, using(crate::proofs::Leading::digit_front, crate::proofs::Leading::digit_back, crate::proofs::Leading::other_front, crate::proofs::Leading::other_back, crate::proofs::Leading::tenfold_more, crate::proofs::Leading::below))]
+fn leading_digits(start: u64, text: &[u8]) -> (u64, &[u8])
+    requires { (start + 23) * 10 ^ length text.now ≤ 23 * 10 ^ 10 }
+    ensures value { result.0 ≡ fold more start (front text.now) }
     ensures rest { result.1.now ≡ back text.now }
-    ensures count { length result.0.now ≡ prefix_len is_ascii_digit text.now }
-    ensures within { length result.0.now + length result.1.now ≡ length text.now }
+    ensures count { length result.1.now + prefix_len is_ascii_digit text.now ≡ length text.now }
+    ensures bound { (result.0 + 23) * 10 ^ length result.1.now ≤ 23 * 10 ^ 10 }
 {
-    text.split_at(digits_len(text))
-}
-
-// The number that digits write behind those of `start`.
-#[tactic(auto, using(crate::proofs::Powers::tenfold, crate::proofs::Powers::tens_up, std::proofs::lemmas::List::Sums::fold_more))]
-fn joined(start: u64, digits: &[u8]) -> u64
-    requires { (start + 23) * 10 ^ length digits.now ≤ 23 * 10 ^ 10 }
-    ensures value { result ≡ fold more start digits.now }
-    ensures bound { result + 23 ≤ (start + 23) * 10 ^ length digits.now }
-{
-    let mut v = start;
-    for b in digits {
-        v = 10 * v + u64::from(b.saturating_sub(b'0'));
+    let mut value = start;
+    let mut rest = text;
+    while let [digit @ b'0'..=b'9', behind @ ..] = rest {
+        value = 10 * value + u64::from(digit - b'0');
+        rest = behind;
     }
-    v
-}
-
-// Whether `text` is one or two digits and nothing else.
-fn short(text: &[u8]) -> bool
-    ensures { result ≡ short_of text.now }
-{
-    digits_len(text) == text.len() && matches!(text.len(), 1 | 2)
+    (value, rest)
 }
 
 // The power of ten behind e or E: one or two digits.
 fn power(text: &[u8]) -> Option<u32>
     ensures { result ≡ power_of text.now }
 {
-    if short(text) {
-        Some(joined(0, text) as u32)
-    } else {
-        None
+    match text {
+        [one @ b'0'..=b'9'] => Some(u32::from(one - b'0')),
+        [ten @ b'0'..=b'9', one @ b'0'..=b'9'] => {
+            Some(10 * u32::from(ten - b'0') + u32::from(one - b'0'))
+        }
+        _ => None,
     }
 }
 
@@ -85,38 +66,42 @@ fn exponent(text: &[u8]) -> Option<u32>
     }
 }
 
-// The digits behind a point, at least one, and what follows them; no digits without a point.
-fn decimals(text: &[u8]) -> Option<(&[u8], &[u8])>
-    ensures value { (minus : Bool) (start : ℕ) → MatchOption result (fraction_of minus start text.now ≡ None) (λ p. fraction_of minus start text.now ≡ powered_of minus (fold more start p.0.now) (length p.0.now) p.1.now) }
-    ensures within { IfSome result (λ p. length p.0.now + length p.1.now ≤ length text.now) }
+// The number that the digits behind a point, at least one, write behind those of `whole`, how many they are, and what
+// follows them; without a point it is `whole`.
+fn decimals(whole: u64, text: &[u8]) -> Option<(u64, usize, &[u8])>
+    requires bound { (whole + 23) * 10 ^ length text.now ≤ 23 * 10 ^ 10 }
+    requires within { length text.now ≤ 10 }
+    ensures value { (minus : Bool) → MatchOption result (fraction_of minus whole text.now ≡ None) (λ p. fraction_of minus whole text.now ≡ powered_of minus p.0 p.1 p.2.now) }
+    ensures few { IfSome result (λ p. p.1 ≤ 10) }
 {
     let [b'.', behind @ ..] = text else {
-        return Some(text.split_at(0));
+        return Some((whole, 0, text));
     };
-    let (digits, rest) = leading_digits(behind);
-    if digits.is_empty() {
+    let (digits, rest) = leading_digits(whole, behind);
+    let places = behind.len() - rest.len();
+    if places == 0 {
         return None;
     }
-    Some((digits, rest))
+    Some((digits, places, rest))
 }
 
 // A number behind its sign: a digit is needed there.
-#[tactic(auto, using(crate::proofs::Powers::tens_join), unfolding(crate::specs::Numbers::unsigned))]
+#[tactic(auto, unfolding(crate::specs::Numbers::unsigned))]
 fn unsigned(minus: bool, text: &[u8]) -> Option<Numeral>
     requires { length text.now ≤ 10 }
     ensures value { result ≡ unsigned_of minus text.now }
     ensures few { IfSome result (λ n. n.places ≤ 10) }
 {
-    let (first, behind) = leading_digits(text);
-    if first.is_empty() {
+    let (whole, behind) = leading_digits(0, text);
+    if behind.len() == text.len() {
         return None;
     }
-    let (decimals, rest) = decimals(behind)?;
+    let (digits, places, rest) = decimals(whole, behind)?;
     let exponent = exponent(rest)?;
     Some(Numeral {
         minus,
-        digits: joined(joined(0, first), decimals),
-        places: decimals.len() as u32,
+        digits,
+        places: places as u32,
         exponent,
     })
 }
@@ -135,13 +120,16 @@ fn signed(text: &[u8]) -> (bool, &[u8])
 
 impl Numeral {
     // The size of digits * 10^exponent / 10^places where that is whole, capped.
-    #[tactic(auto, using(crate::proofs::Sizes::tens, crate::proofs::Sizes::size_up, crate::proofs::Sizes::size_down, crate::proofs::Sizes::cap_shift))]
+    #[tactic(auto, using(crate::proofs::Sizes::tens, crate::proofs::Sizes::size_same, crate::proofs::Sizes::size_up, crate::proofs::Sizes::size_down, crate::proofs::Sizes::cap_shift))]
     fn size(self) -> Option<u64>
         requires { self.places ≤ 10 }
         ensures value { result ≡ option_map capped (size_of self.digits self.places self.exponent) }
         ensures bound { IfSome result (λ n. n ≤ 1000000000000) }
     {
-        if self.places <= self.exponent {
+        if self.places == self.exponent {
+            return Some(self.digits.min(CAP));
+        }
+        if self.places < self.exponent {
             let shift = (self.exponent - self.places).min(SHIFT);
             return Some(self.digits.saturating_mul(10u64.pow(shift)).min(CAP));
         }
