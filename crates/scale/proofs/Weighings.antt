@@ -1,17 +1,14 @@
 -- The loop that weighs one value after another.
-use Rattle.std.proofs.Common.{◌≡◌, ℕ, zero, suc, ◌+◌, ◌*◌, ◌<◌, ◌≤◌, Bool, true, cond, leb, List, [], ◌∷◌, ◌++◌, length, take, drop, set, Ok, Err, sym, refl, ap, ◌∙◌, subst, mul-le-mul_right, suc-mul, zero-mul, add-one, arith, take-suc-set}
+use Rattle.std.proofs.Common.{◌≡◌, ℕ, zero, suc, ◌+◌, ◌*◌, ◌<◌, ◌≤◌, List, [], ◌∷◌, ◌++◌, length, take, drop, set, Ok, Result, sym, refl, ap, ◌∙◌, subst, mul-le-mul_right, suc-mul, zero-mul, add-one, arith, take-suc-set}
 use Rattle.std.proofs.lemmas.List.{drop-drop, length-drop}
-use Rattle.std.proofs.lemmas.Bool.{le-leb}
-use Rattle.fault.specs.declared.causes.Cause.TheVariants.{TooFewReadings}
-use Rattle.fault.specs.Faults.{refusal}
+use Rattle.fault.specs.declared.faults.Fault.{Fault}
 use Rattle.bank.specs.declared.reading.Reading.{Reading}
-use Rattle.bank.specs.Fitting.{mapped_ok}
 use Rattle.bank.specs.Ports.{Port}
 use Rattle.value.specs.declared.block.Measured.{Measured}
 use Rattle.scale.specs.declared.settings.Settings.{Settings}
 use Rattle.scale.specs.Blocks.{weighings, readings_for}
 use Rattle.scale.specs.Choices.{readings_of}
-use Rattle.scale.specs.Measuring.{put_port, dropped, measurement, measures, measured_port}
+use Rattle.scale.specs.Measuring.{put_port, dropped, measurement}
 use Rattle.scale.specs.Weighing.{weighed}
 use Rattle.scale.proofs.Putting.{put_same, put_here, put_again}
 
@@ -43,34 +40,27 @@ module _ (s : Settings) (m f : ℕ → Port) (p i : ℕ) (vs : List Measured) (m
   n : ℕ
   n = readings_of s.averaging
 
-  -- readings enough wait for this value
   left : suc i * readings_of s.averaging ≤ length (m p).waiting
   left = let e : suc i ≤ length vs = omega arith in omega (arith, mul-le-mul_right (readings_of s.averaging) e)
 
   here : f p ≡ dropped (readings_for s i) (m p)
   here = ap (λ (g : ℕ → Port). g p) so.ports ∙ put_here m p (dropped (readings_for s i) (m p))
 
-  enough_here : readings_of s.averaging ≤ length (f p).waiting
+  -- readings enough wait for this value
+  pub enough_here : readings_of s.averaging ≤ length (f p).waiting
   enough_here = subst (λ (a : Port). readings_of s.averaging ≤ length a.waiting) (sym here) (omega (arith, left, suc-mul i (readings_of s.averaging), length-drop (i * readings_of s.averaging) (m p).waiting))
 
-  test : leb (readings_of s.averaging) (length (f p).waiting) ≡ true
-  test = le-leb (readings_of s.averaging) (length (f p).waiting) enough_here
-
-  measured_here : measures p s.averaging (f p) ≡ Ok (measurement s.averaging (drop (readings_for s i) (m p).waiting))
-  measured_here = ap (λ (b : Bool). cond b (Ok (measurement s.averaging (f p).waiting)) (Err (refusal TooFewReadings p))) test ∙ ap (λ (a : Port). Ok (measurement s.averaging a.waiting)) here
-
-  port_here : measured_port s.averaging (f p) ≡ dropped (readings_for s (suc i)) (m p)
+  port_here : dropped (readings_of s.averaging) (f p) ≡ dropped (readings_for s (suc i)) (m p)
   port_here =
       let e : i * readings_of s.averaging + readings_of s.averaging ≡ suc i * readings_of s.averaging = omega (arith, suc-mul i (readings_of s.averaging)) in
-      ap (λ (b : Bool). cond b (dropped (readings_of s.averaging) (f p)) (f p)) test
-      ∙ ap (dropped (readings_of s.averaging)) here
+      ap (dropped (readings_of s.averaging)) here
       ∙ (λ t. record { gauges = (m p).gauges; waiting = (drop-drop (readings_of s.averaging) (i * readings_of s.averaging) (m p).waiting ∙ ap (λ (j : ℕ). drop j (m p).waiting) e) t })
 
-  pub weighed_more : (w : Measured) (f' : ℕ → Port) → Ok w ≡ mapped_ok (weighed s) (measures p s.averaging (f p)) → f' ≡ put_port f p (measured_port s.averaging (f p)) → Weighed s m f' p (i + 1) (set vs i w)
+  pub weighed_more : (w : Measured) (f' : ℕ → Port) → ◌≡◌ {A = Result Measured Fault} (Ok w) (Ok (weighed s (measurement s.averaging (f p).waiting))) → f' ≡ put_port f p (dropped (readings_of s.averaging) (f p)) → Weighed s m f' p (i + 1) (set vs i w)
   weighed_more w f' got at =
-      let q : Ok w ≡ Ok (nth s i (m p).waiting) = got ∙ ap (mapped_ok (weighed s)) measured_here in
+      let q : ◌≡◌ {A = Result Measured Fault} (Ok w) (Ok (nth s i (m p).waiting)) = got ∙ ap (λ (a : Port). Ok (weighed s (measurement s.averaging a.waiting))) here in
       let w_is : w ≡ nth s i (m p).waiting = cc in
       record {
         so_far = ap (λ (j : ℕ). take j (set vs i w)) (add-one i) ∙ take-suc-set vs i w more ∙ (λ t. so.so_far t ++ (w_is t ∷ [])) ∙ sym (weighings_more s i (m p).waiting) ∙ ap (λ (j : ℕ). weighings s j (m p).waiting) (sym (add-one i));
-        ports = at ∙ ap (λ (g : ℕ → Port). put_port g p (measured_port s.averaging (f p))) so.ports ∙ put_again m p (dropped (readings_for s i) (m p)) (measured_port s.averaging (f p)) ∙ ap (put_port m p) port_here ∙ ap (λ (j : ℕ). put_port m p (dropped (readings_for s j) (m p))) (sym (add-one i));
+        ports = at ∙ ap (λ (g : ℕ → Port). put_port g p (dropped (readings_of s.averaging) (f p))) so.ports ∙ put_again m p (dropped (readings_for s i) (m p)) (dropped (readings_of s.averaging) (f p)) ∙ ap (put_port m p) port_here ∙ ap (λ (j : ℕ). put_port m p (dropped (readings_for s j) (m p))) (sym (add-one i));
       }

@@ -100,6 +100,8 @@ impl Scale {
         ensures state { self.new.state ≡ holding self.old.state (measures address.number self.old.state.force.averaging (B.shows bank.old address.number)) }
         ensures ports { B.shows bank.new ≡ put_port (B.shows bank.old) address.number (measured_port self.old.state.force.averaging (B.shows bank.old address.number)) }
     {
+        let readings = self.state.force.averaging.readings();
+        enough(bank, address, u16::from(readings))?;
         self.state.held = Some(Ticket {
             measured: self.weigh(bank, address)?,
             format: self.state.force.format,

@@ -1,7 +1,8 @@
 // Measuring: readings of the scale's own port as one exact load.
 ghost use Rattle.std.specs.Prelude.{◌≡◌, ℕ, ◌*◌, ◌^◌, ◌≤◌, length, IfOk, Ok, unsigned_abs};
 ghost use Rattle.bank.specs.Ports.{most};
-ghost use Rattle.scale.specs.Measuring.{put_port, dropped, enough_for, one_more, mean_of, sums, measures, measured_port};
+ghost use Rattle.scale.specs.Choices.{readings_of};
+ghost use Rattle.scale.specs.Measuring.{put_port, dropped, enough_for, one_more, mean_of, sums, measurement, measures, measured_port};
 
 use crate::averaging::Averaging;
 use bank::{Address, GaugeBank, Mark, Reading};
@@ -67,6 +68,21 @@ fn total<B: GaugeBank>(bank: &mut B, address: Address, readings: u8) -> Result<R
     Ok(sum)
 }
 
+// The measurement of the first readings that wait, which are enough.
+pub(crate) fn measured<B: GaugeBank>(
+    bank: &mut B,
+    address: Address,
+    averaging: Averaging,
+) -> Result<Measurement, Fault>
+    requires { readings_of averaging ≤ length (B.shows bank.old address.number).waiting }
+    ensures answer { result ≡ Ok (measurement averaging (B.shows bank.old address.number).waiting) }
+    ensures after { B.shows bank.new ≡ put_port (B.shows bank.old) address.number (dropped (readings_of averaging) (B.shows bank.old address.number)) }
+    ensures bound { IfOk result (λ m. unsigned_abs m.load ≤ 2 ^ 43) }
+{
+    let sum = total(bank, address, averaging.readings())?;
+    Ok(mean(sum, averaging))
+}
+
 // Takes the readings of one measurement, or none where too few wait.
 // Kept: (d) bank and address in one struct: it holds a `&mut`, so each call would promise two things more, that it keeps its reference and its address.
 pub(crate) fn measure<B: GaugeBank>(
@@ -78,8 +94,6 @@ pub(crate) fn measure<B: GaugeBank>(
     ensures after { B.shows bank.new ≡ put_port (B.shows bank.old) address.number (measured_port averaging (B.shows bank.old address.number)) }
     ensures bound { IfOk result (λ m. unsigned_abs m.load ≤ 2 ^ 43) }
 {
-    let readings = averaging.readings();
-    enough(bank, address, u16::from(readings))?;
-    let sum = total(bank, address, readings)?;
-    Ok(mean(sum, averaging))
+    enough(bank, address, u16::from(averaging.readings()))?;
+    measured(bank, address, averaging)
 }

@@ -1,11 +1,11 @@
 // What a load weighs under the settings: the shown value and its status.
-ghost use Rattle.std.specs.Prelude.{◌≡◌, ◌+◌, ◌^◌, ◌≤◌, ◌-ℤ◌, unsigned_abs};
-ghost use Rattle.bank.specs.Fitting.{mapped_ok};
-ghost use Rattle.scale.specs.Measuring.{put_port, measures, measured_port};
+ghost use Rattle.std.specs.Prelude.{◌≡◌, ◌+◌, ◌^◌, ◌≤◌, ◌-ℤ◌, length, Ok, unsigned_abs};
+ghost use Rattle.scale.specs.Choices.{readings_of};
+ghost use Rattle.scale.specs.Measuring.{put_port, dropped, measurement};
 ghost use Rattle.scale.specs.Weighing.{shown_as, of_both, weighed, tare_ticket};
 
 use crate::display::Display;
-use crate::measuring::measure;
+use crate::measuring::measured;
 use crate::scale::Scale;
 use crate::state::Ticket;
 use bank::{Address, GaugeBank};
@@ -67,17 +67,18 @@ impl Scale {
         }
     }
 
-    // Measures once: net or gross, as the settings in force have it, and the status of both.
+    // Measures once, where readings enough wait: net or gross, as the settings in force have it, and the status of both.
     pub(crate) fn weigh<B: GaugeBank>(
         &self,
         bank: &mut B,
         address: Address,
     ) -> Result<Measured, Fault>
-        ensures answer { result ≡ mapped_ok (weighed self.now.state.force) (measures address.number self.now.state.force.averaging (B.shows bank.old address.number)) }
-        ensures after { B.shows bank.new ≡ put_port (B.shows bank.old) address.number (measured_port self.now.state.force.averaging (B.shows bank.old address.number)) }
+        requires { readings_of self.now.state.force.averaging ≤ length (B.shows bank.old address.number).waiting }
+        ensures answer { result ≡ Ok (weighed self.now.state.force (measurement self.now.state.force.averaging (B.shows bank.old address.number).waiting)) }
+        ensures after { B.shows bank.new ≡ put_port (B.shows bank.old) address.number (dropped (readings_of self.now.state.force.averaging) (B.shows bank.old address.number)) }
     {
         let force = &self.state.force;
-        let measurement = measure(bank, address, force.averaging)?;
+        let measurement = measured(bank, address, force.averaging)?;
         let gross_load = less(measurement.load, force.dead);
         let gross = self.shown(force.format, gross_load);
         let net = self.net_value(gross_load, gross);
