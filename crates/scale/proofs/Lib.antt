@@ -1,6 +1,7 @@
 pub mod Putting
 pub mod Totals
 pub mod Weighings
+pub mod Responses
 pub mod Sayings
 pub mod Left
 pub mod Obeyed

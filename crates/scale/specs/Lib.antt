@@ -12,6 +12,5 @@ pub mod Entries
 pub mod Queries
 pub mod Blocks
 pub mod Hearing
-pub mod Keeping
-pub mod Exact
+pub mod Responding
 pub mod Laws

@@ -1,7 +1,7 @@
 // What a scale says to a command.
 ghost use Rattle.std.specs.Prelude.{◌≡◌, length};
 ghost use Rattle.value.specs.Written.{granted, written};
-ghost use Rattle.scale.specs.Answers.{answer_bytes};
+ghost use Rattle.scale.specs.Answers.{ticket_bytes, answer_bytes};
 
 use crate::state::Ticket;
 use bank::Address;
@@ -17,6 +17,17 @@ pub enum Answer {
     Value(Ticket),
 }
 
+impl Ticket {
+    // Writes the value of the scale at an address to the front of the buffer, or nothing where it has no room.
+    pub(crate) fn write(&self, address: Address, out: &mut [u8]) -> usize
+        ensures count { result ≡ length (granted out.old (ticket_bytes address.number self.now)) }
+        ensures buffer { out.new ≡ written out.old (ticket_bytes address.number self.now) }
+    {
+        self.format
+            .write(&[self.measured], address.number, self.nominal, out)
+    }
+}
+
 impl Answer {
     // Writes the answer of the scale at an address to the front of the buffer, or nothing where it has no room.
     pub(crate) fn write(self, address: Address, out: &mut [u8]) -> usize
@@ -27,9 +38,7 @@ impl Answer {
             Answer::Silence => 0,
             Answer::Line(plain) => plain.write(out),
             Answer::Memory(memory) => write_line(&memory_text(memory), out),
-            Answer::Value(ticket) => ticket
-                .format
-                .write(&[ticket.measured], address.number, ticket.nominal, out),
+            Answer::Value(ticket) => ticket.write(address, out),
         }
     }
 }

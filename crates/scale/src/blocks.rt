@@ -4,7 +4,7 @@ ghost use Rattle.bank.specs.Fitting.{mapped_ok};
 ghost use Rattle.value.specs.Output.{format_block};
 ghost use Rattle.value.specs.Written.{granted, written};
 ghost use Rattle.scale.specs.Measuring.{put_port, dropped, measures, measured_port};
-ghost use Rattle.scale.specs.Blocks.{weighings, readings_for, blocks, block_port, written_by, holding, refused_or};
+ghost use Rattle.scale.specs.Blocks.{weighings, readings_for, blocks, block_port, written_by, holding};
 
 use crate::measuring::enough;
 use crate::scale::Scale;
@@ -91,12 +91,8 @@ impl Scale {
     }
 
     // Measures one value and holds it until the scale is selected.
-    pub(crate) fn hold<B: GaugeBank>(
-        &mut self,
-        bank: &mut B,
-        address: Address,
-    ) -> Result<usize, Fault>
-        ensures answer { result ≡ mapped_ok length (refused_or (measures address.number self.old.state.force.averaging (B.shows bank.old address.number))) }
+    pub(crate) fn hold<B: GaugeBank>(&mut self, bank: &mut B, address: Address) -> Result<(), Fault>
+        ensures answer { result ≡ mapped_ok (λ _. tt) (measures address.number self.old.state.force.averaging (B.shows bank.old address.number)) }
         ensures state { self.new.state ≡ holding self.old.state (measures address.number self.old.state.force.averaging (B.shows bank.old address.number)) }
         ensures ports { B.shows bank.new ≡ put_port (B.shows bank.old) address.number (measured_port self.old.state.force.averaging (B.shows bank.old address.number)) }
     {
@@ -107,6 +103,6 @@ impl Scale {
             format: self.state.force.format,
             nominal: self.state.force.nominal,
         });
-        Ok(0)
+        Ok(())
     }
 }

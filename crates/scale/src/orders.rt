@@ -1,8 +1,9 @@
 // What an order asks of a scale.
 ghost use Rattle.std.specs.Prelude.{◌≡◌};
-ghost use Rattle.scale.specs.Orders.{number_in, text_in, block_size};
+ghost use Rattle.scale.specs.Orders.{number_in, text_in, block_size, task_of};
+ghost use Rattle.scale.specs.Responding.{for_values};
 
-use command::{Argument, Order, Text};
+use command::{Argument, Form, Mnemonic, Order, Text};
 use fault::{Cause, Fault};
 
 // The number of an order.
@@ -36,4 +37,11 @@ pub(crate) fn block_size_of(order: Order) -> Result<u8, Fault>
         Argument::Number(_) => Err(Cause::OutOfRange.at(order.place)),
         Argument::Text(_) => Err(Cause::Malformed.at(order.place)),
     }
+}
+
+// Whether an order asks for measured values.
+pub(crate) fn asks_values(order: Order) -> bool
+    ensures { result ≡ for_values (task_of order.form order.name) }
+{
+    matches!((order.form, order.name), (Form::Query, Mnemonic::Msv))
 }
