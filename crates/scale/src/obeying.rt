@@ -5,7 +5,7 @@ ghost use Rattle.value.specs.Written.{granted};
 ghost use Rattle.scale.specs.declared.modes.Mode.TheVariants.{Selected, Broadcast};
 ghost use Rattle.scale.specs.Blocks.{written_by};
 ghost use Rattle.scale.specs.Measuring.{put_port};
-ghost use Rattle.scale.specs.Hearing.{permitted, obeys};
+ghost use Rattle.scale.specs.Hearing.{spoken, permitted, obeys};
 ghost use Rattle.scale.specs.Orders.{task_of};
 ghost use Rattle.scale.specs.Responding.{acts};
 
@@ -49,6 +49,22 @@ impl Scale {
         }
     }
 
+    // Does such an order and writes its answer: how many bytes, or why it is refused.
+    fn answer<B: GaugeBank>(
+        &mut self,
+        address: Address,
+        order: Order,
+        bank: &mut B,
+        out: &mut [u8],
+    ) -> Result<usize, Fault>
+        ensures answer { result ≡ mapped_ok (λ bytes. length (granted out.old bytes)) (spoken Selected address.number (acts (task_of order.form order.name) address.number order self.old.state (B.shows bank.old address.number))).reply }
+        ensures state { self.new.state ≡ (acts (task_of order.form order.name) address.number order self.old.state (B.shows bank.old address.number)).state }
+        ensures ports { B.shows bank.new ≡ put_port (B.shows bank.old) address.number (acts (task_of order.form order.name) address.number order self.old.state (B.shows bank.old address.number)).port }
+        ensures buffer { out.new ≡ written_by out.old (spoken Selected address.number (acts (task_of order.form order.name) address.number order self.old.state (B.shows bank.old address.number))).reply }
+    {
+        Ok(self.act(address, order, bank)?.write(address, out))
+    }
+
     // The selected scale obeys one order, if it may: how many bytes of answer were written, or why it is refused.
     #[tactic(auto, unfolding(crate::specs::Hearing::obeys))]
     pub(crate) fn obey<B: GaugeBank>(
@@ -67,7 +83,7 @@ impl Scale {
         if asks_values(order) {
             return self.write_block(bank, address, block_size_of(order)?, out);
         }
-        Ok(self.act(address, order, bank)?.write(address, out))
+        self.answer(address, order, bank, out)
     }
 
     // One of all obeys an order, if it may, and answers nothing; it measures one value and holds it.

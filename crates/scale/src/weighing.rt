@@ -2,7 +2,7 @@
 ghost use Rattle.std.specs.Prelude.{◌≡◌, ◌+◌, ◌^◌, ◌≤◌, ◌-ℤ◌, length, Ok, unsigned_abs};
 ghost use Rattle.scale.specs.Choices.{readings_of};
 ghost use Rattle.scale.specs.Measuring.{put_port, dropped, measurement};
-ghost use Rattle.scale.specs.Weighing.{shown_as, of_both, weighed, tare_ticket};
+ghost use Rattle.scale.specs.Weighing.{shown_as, of_both, fits_in, weighed, tare_ticket};
 
 use crate::display::Display;
 use crate::measuring::measured;
@@ -25,6 +25,13 @@ pub(crate) fn less(load: i64, other: i64) -> i64
     ensures bound { unsigned_abs result ≤ unsigned_abs load + unsigned_abs other }
 {
     load - other
+}
+
+// A weight as it is shown, and whether it fits the format in force.
+#[derive(Clone, Copy)]
+struct Weight {
+    value: i128,
+    fits: bool,
 }
 
 impl Display {
@@ -53,21 +60,36 @@ impl Scale {
         )
     }
 
-    // The net value: the gross value where there is no tare, so that one division does for both.
-    fn net_value(&self, gross_load: i64, gross: i128) -> i128
-        requires load { unsigned_abs gross_load ≤ 2 ^ 59 }
-        requires value { gross ≡ shown_as self.now.state.force self.now.state.force.format gross_load }
-        ensures { result ≡ shown_as self.now.state.force self.now.state.force.format (gross_load -ℤ self.now.state.force.tare) }
+    // The weight of a load in the format in force.
+    fn weight(&self, load: i64) -> Weight
+        ensures value { result.value ≡ shown_as self.now.state.force self.now.state.force.format load }
+        ensures fits { result.fits ≡ fits_in self.now.state.force result.value }
     {
         let force = &self.state.force;
-        if force.tare == 0 {
+        let value = self.shown(force.format, load);
+        Weight {
+            value,
+            fits: force.format.fits(force.nominal, value),
+        }
+    }
+
+    // The net weight: the gross weight where there is no tare, so that it is worked out once.
+    fn net_weight(&self, gross_load: i64, gross: Weight) -> Weight
+        requires load { unsigned_abs gross_load ≤ 2 ^ 59 }
+        requires value { gross.value ≡ shown_as self.now.state.force self.now.state.force.format gross_load }
+        requires fits { gross.fits ≡ fits_in self.now.state.force gross.value }
+        ensures value { result.value ≡ shown_as self.now.state.force self.now.state.force.format (gross_load -ℤ self.now.state.force.tare) }
+        ensures fits { result.fits ≡ fits_in self.now.state.force result.value }
+    {
+        if self.state.force.tare == 0 {
             gross
         } else {
-            self.shown(force.format, less(gross_load, force.tare))
+            self.weight(less(gross_load, self.state.force.tare))
         }
     }
 
     // Measures once, where readings enough wait: net or gross, as the settings in force have it, and the status of both.
+    #[inline(always)]
     pub(crate) fn weigh<B: GaugeBank>(
         &self,
         bank: &mut B,
@@ -80,13 +102,11 @@ impl Scale {
         let force = &self.state.force;
         let measurement = measured(bank, address, force.averaging)?;
         let gross_load = less(measurement.load, force.dead);
-        let gross = self.shown(force.format, gross_load);
-        let net = self.net_value(gross_load, gross);
-        let net_fits = force.format.fits(force.nominal, net);
-        let gross_fits = force.format.fits(force.nominal, gross);
+        let gross = self.weight(gross_load);
+        let net = self.net_weight(gross_load, gross);
         Ok(Measured {
-            value: force.display.of(net, gross),
-            status: status(net_fits, gross_fits, measurement.mark.overdriven),
+            value: force.display.of(net.value, gross.value),
+            status: status(net.fits, gross.fits, measurement.mark.overdriven),
         })
     }
 

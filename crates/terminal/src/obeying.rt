@@ -88,11 +88,11 @@ impl<B: GaugeBank> Terminal<B> {
         ensures value { result ≡ returned (worded (bus B.shows self.old) heard) }
         ensures buffer { answer.new ≡ (worded (bus B.shows self.old) heard).says ++ drop result.written answer.old }
     {
-        self.listening = self.listening.after(heard);
-        match heard {
-            Ok(Heard::Blank) => SILENCE,
-            _ => self.pass_on(heard, answer),
+        if let Ok(Heard::Blank) = heard {
+            return SILENCE;
         }
+        self.listening = self.listening.after(heard);
+        self.pass_on(heard, answer)
     }
 
     // Obeys all its bytes as one command, and writes the answer to the front of `answer`. A buffer under 1,088 bytes is refused before anything else.
