@@ -8,7 +8,7 @@ use Rattle.command.specs.declared.orders.Order.{Order}
 use Rattle.scale.specs.declared.modes.Mode.{Mode}
 use Rattle.scale.specs.declared.modes.Mode.TheVariants.{Selected, Broadcast}
 use Rattle.scale.specs.declared.state.State.{State}
-use Rattle.scale.specs.Hearing.{Outcome, Step, spoken, by_task, permitted, obeys_by, obeys, ordered_by, hears}
+use Rattle.scale.specs.Hearing.{Outcome, Step, spoken, by_task, in_order, permitted, permitted_by, obeys_by, obeys, ordered_by, hears}
 use Rattle.scale.specs.Orders.{Task, KeepDead, SetFull, Tare, Weigh, Plain, task_of}
 use Rattle.scale.specs.Responding.{for_values, acts, responds}
 
@@ -29,10 +29,10 @@ acts_is Tare m a o s p h = refl
 acts_is Weigh m a o s p h = absurd (grind arith)
 acts_is Plain m a o s p h = refl
 
-pub answers_is : (a : ℕ) (o : Order) (s : State) (p : Port) → permitted a s o ≡ Ok o → for_values (task_of o.form o.name) ≡ false
-    → obeys Selected a o s p ≡ spoken Selected a (acts (task_of o.form o.name) a o s p)
+pub answers_is : (m : Mode) (a : ℕ) (o x : Order) (s : State) (p : Port) → in_order m o ≡ Ok x → permitted a s x ≡ Ok x → for_values (task_of x.form x.name) ≡ false
+    → obeys m a o s p ≡ spoken m a (acts (task_of x.form x.name) a x s p)
 unfolding obeys
-answers_is a o s p may h = ap (obeys_by Selected a s p) may ∙ acts_is (task_of o.form o.name) Selected a o s p h
+answers_is m a o x s p heard may h = ap (λ (r : Result Order Fault). obeys_by m a s p (permitted_by a s r)) heard ∙ ap (obeys_by m a s p) may ∙ acts_is (task_of x.form x.name) m a x s p h
 
 -- in a broadcast nobody tells of a refusal
 settled_unheard : (x : Step) → (ordered_by Broadcast x).fault ≡ None

@@ -49,3 +49,8 @@ entered s Dpw n = None
 entered s Tdd n = None
 entered s Res n = None
 entered s Esr n = None
+
+-- these settings, or those that stood before where nothing was entered
+abbrev pub entered_or : Settings → Option Settings → Settings
+entered_or s None = s
+entered_or s (Some x) = x

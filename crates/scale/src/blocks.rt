@@ -64,6 +64,28 @@ impl Scale {
         Ok(format.write(values, address.number, nominal, out))
     }
 
+    // Weighs once, and writes the value.
+    #[tactic(auto, unfolding(crate::specs::Blocks::weighings))]
+    fn write_one<B: GaugeBank>(
+        &self,
+        bank: &mut B,
+        address: Address,
+        out: &mut [u8],
+    ) -> Result<usize, Fault>
+        requires { readings_for self.now.state.force 1 ≤ length (B.shows bank.old address.number).waiting }
+        ensures answer { result ≡ Ok (length (granted out.old (format_block self.now.state.force.format self.now.state.force.nominal address.number (weighings self.now.state.force 1 (B.shows bank.old address.number).waiting)))) }
+        ensures buffer { out.new ≡ written out.old (format_block self.now.state.force.format self.now.state.force.nominal address.number (weighings self.now.state.force 1 (B.shows bank.old address.number).waiting)) }
+        ensures after { B.shows bank.new ≡ put_port (B.shows bank.old) address.number (dropped (readings_for self.now.state.force 1) (B.shows bank.old address.number)) }
+    {
+        let measured = self.weigh(bank, address)?;
+        let Settings {
+            format,
+            nominal,
+            ..
+        } = self.state.force;
+        Ok(format.write(&[measured], address.number, nominal, out))
+    }
+
     // Writes a block of so many values, or refuses where too few readings wait for all of them.
     pub(crate) fn write_block<B: GaugeBank>(
         &self,
@@ -83,7 +105,7 @@ impl Scale {
             u16::from(count) * u16::from(self.state.force.averaging.readings()),
         )?;
         if count == 1 {
-            return self.write_all(bank, address, &mut [UNMEASURED], out);
+            return self.write_one(bank, address, out);
         }
         // Kept: (a) an array of the most values with their count beside it: a scale asks for no memory.
         let mut values = [UNMEASURED; MOST_VALUES];

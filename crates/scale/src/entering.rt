@@ -1,6 +1,7 @@
 // Entering a setting.
-ghost use Rattle.std.specs.Prelude.{◌≡◌, IfSome};
-ghost use Rattle.scale.specs.Entering.{ByByte, byte_of, loads_of, entered};
+ghost use Rattle.std.specs.Prelude.{◌≡◌};
+ghost use Rattle.std.specs.Option.{option_map};
+ghost use Rattle.scale.specs.Entering.{ByByte, byte_of, loads_of, entered, entered_or};
 
 use crate::settings::Settings;
 use command::Mnemonic;
@@ -15,10 +16,11 @@ fn numbered<T: TryFrom<u8, Error = UnknownNumber>>(n: i32) -> Option<T>
 }
 
 impl Settings {
-    // These settings with the one that a command names entered; none where it is no setting or has no such value.
-    pub(crate) fn entered(mut self, name: Mnemonic, n: i32) -> Option<Settings>
-        ensures value { result ≡ entered self name n }
-        ensures loads { IfSome result (λ s. loads_of s ≡ loads_of self) }
+    // Enters the setting that a command names; nothing where it is no setting or has no such value.
+    pub(crate) fn enter(&mut self, name: Mnemonic, n: i32) -> Option<()>
+        ensures value { result ≡ option_map (λ _. tt) (entered self.old name n) }
+        ensures settings { self.new ≡ entered_or self.old (entered self.old name n) }
+        ensures loads { loads_of self.new ≡ loads_of self.old }
     {
         match name {
             Mnemonic::Cof => self.format = numbered(n)?,
@@ -28,6 +30,6 @@ impl Settings {
             Mnemonic::Tas => self.display = numbered(n)?,
             _ => return None,
         }
-        Some(self)
+        Some(())
     }
 }

@@ -17,8 +17,9 @@ impl Scale {
         ensures answer { result ≡ (sets order self.old.state).reply }
         ensures state { self.new.state ≡ (sets order self.old.state).state }
     {
-        let settings = self.state.force.entered(order.name, number_of(order)?);
-        self.state.force = settings.ok_or(Cause::OutOfRange.at(order.place))?;
+        let n = number_of(order)?;
+        let entered = self.state.force.enter(order.name, n);
+        entered.ok_or(Cause::OutOfRange.at(order.place))?;
         Ok(Answer::Line(Plain::Done))
     }
 

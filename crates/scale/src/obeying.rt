@@ -86,6 +86,21 @@ impl Scale {
         self.answer(address, order, bank, out)
     }
 
+    // Does such an order and answers nothing, or tells why it is refused.
+    fn act_unheard<B: GaugeBank>(
+        &mut self,
+        address: Address,
+        order: Order,
+        bank: &mut B,
+    ) -> Result<(), Fault>
+        ensures answer { result ≡ mapped_ok (λ _. tt) (spoken Broadcast address.number (acts (task_of order.form order.name) address.number order self.old.state (B.shows bank.old address.number))).reply }
+        ensures state { self.new.state ≡ (acts (task_of order.form order.name) address.number order self.old.state (B.shows bank.old address.number)).state }
+        ensures ports { B.shows bank.new ≡ put_port (B.shows bank.old) address.number (acts (task_of order.form order.name) address.number order self.old.state (B.shows bank.old address.number)).port }
+    {
+        self.act(address, order, bank)?;
+        Ok(())
+    }
+
     // One of all obeys an order, if it may, and answers nothing; it measures one value and holds it.
     #[tactic(auto, unfolding(crate::specs::Hearing::obeys))]
     pub(crate) fn obey_unheard<B: GaugeBank>(
@@ -104,7 +119,6 @@ impl Scale {
             block_size_of(order)?;
             return self.hold(bank, address);
         }
-        self.act(address, order, bank)?;
-        Ok(())
+        self.act_unheard(address, order, bank)
     }
 }
