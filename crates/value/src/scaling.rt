@@ -24,8 +24,17 @@ fn steps(num: i64, full: u32, span: i64, step: u8) -> i128
     nearest(times(num as i128, full), times(span as i128, step as u32))
 }
 
+// What `shown` shows, where a product has no room in 64 bits: no load of a scale is so large.
+#[cold]
+#[inline(never)]
+fn shown_wide(num: i64, full: u32, span: i64, step: u8) -> i128
+    ensures { result ≡ scaled num full span step }
+{
+    times(steps(num, full, span, step), step as u32)
+}
+
 // The value shown for the load `num` of a span, where the whole span shows `full`: in whole steps,
-// rounded once at the end. The products of a scale's loads have room in 64 bits.
+// rounded once at the end.
 pub fn shown(num: i64, full: u32, span: i64, step: u8) -> i128
     ensures value { result ≡ scaled num full span step }
     ensures close { pos 0 <ℤ span → 0 < step → Shown num full span step result }
@@ -36,7 +45,7 @@ pub fn shown(num: i64, full: u32, span: i64, step: u8) -> i128
         (Some(product), Some(divisor)) => {
             times(nearest_narrow(product, divisor) as i128, step as u32)
         }
-        _ => times(steps(num, full, span, step), step as u32),
+        _ => shown_wide(num, full, span, step),
     }
 }
 

@@ -31,7 +31,6 @@ returns-in-Some-Some c =
     record { value = simp to_z-of_z e; close = λ h k. simp to_z-of_z (subst (Shown num full span step) (sym e) (shown_law num full span step h k)) }
 
 pub returns-in_default : goal.returns-in_default
-unfolding scaled
 returns-in_default c =
     let num = c.args.num in
     let full = c.args.full in
@@ -39,7 +38,6 @@ returns-in_default c =
     let step = c.args.step in
     let n = c.ranges.num in
     let s = c.ranges.span in
-    let t : SFits w128 c.steps.result = record { sfits = c.steps.type_inv } in
-    let v : SFits w128 c.times-in_default.result = record { sfits = c.times-in_default.type_inv } in
-    let e = (simp to_z-of_z at c.times-in_default.ensures) ∙ ap (λ z. z *ℤ pos step) (simp to_z-of_z at c.steps.ensures.value) in
+    let v : SFits w128 c.shown_wide.result = record { sfits = c.shown_wide.type_inv } in
+    let e = simp to_z-of_z at c.shown_wide.ensures in
     record { value = simp to_z-of_z e; close = λ h k. simp to_z-of_z (subst (Shown num full span step) (sym e) (shown_law num full span step h k)) }
