@@ -3,7 +3,7 @@ ghost use Rattle.std.specs.Prelude.{◌≡◌, ◌≤◌, length};
 ghost use Rattle.value.specs.Blocks.{value_bytes, block};
 ghost use Rattle.value.specs.Fitting.{fits};
 ghost use Rattle.value.specs.Numbers.{known};
-ghost use Rattle.value.specs.Output.{shape, layout_numbered};
+ghost use Rattle.value.specs.Output.{shape, layout_numbered, ending_of};
 ghost use Rattle.value.specs.Written.{granted, written};
 
 use crate::binary::{Reversed, ThreeBytes, ThreeBytesStatus, TwoBytes};
@@ -55,11 +55,15 @@ impl Layout {
         self as u8
     }
 
-    // Whether the values are text.
-    pub(crate) fn is_decimal(self) -> bool
-        ensures { result ≡ (shape self).decimal }
+    // Where CR LF stands, if it is kept: after each decimal value, and once after a binary block.
+    pub(crate) fn ending(self, ended: bool) -> Ending
+        ensures { result ≡ ending_of (record { layout = self; ended = ended }) }
     {
-        matches!(self, Layout::Decimal | Layout::DecimalStatus)
+        match (ended, self) {
+            (false, _) => Ending::Dropped,
+            (true, Layout::Decimal | Layout::DecimalStatus) => Ending::Each,
+            (true, _) => Ending::Once,
+        }
     }
 
     // What the whole span shows where no nominal value is set.
@@ -90,37 +94,40 @@ impl Layout {
         }
     }
 
-    // Writes the values as a block of this layout, or nothing where they have no room.
+    // Writes the values as a block of this layout, with CR LF or without, or nothing where they have no room.
     pub(crate) fn write(
         self,
         values: &[Measured],
         address: u8,
         nominal: u32,
-        ending: Ending,
+        ended: bool,
         out: &mut [u8],
     ) -> usize
-        ensures count { result ≡ length (granted out.old (block ending (value_bytes (shape self).limits (shape self).bytes nominal address) values.now)) }
-        ensures buffer { out.new ≡ written out.old (block ending (value_bytes (shape self).limits (shape self).bytes nominal address) values.now) }
+        ensures count { result ≡ length (granted out.old (block (ending_of (record { layout = self; ended = ended })) (value_bytes (shape self).limits (shape self).bytes nominal address) values.now)) }
+        ensures buffer { out.new ≡ written out.old (block (ending_of (record { layout = self; ended = ended })) (value_bytes (shape self).limits (shape self).bytes nominal address) values.now) }
     {
+        // One of a family stands for all, so that each arm knows its ending.
+        let binary = Layout::ThreeBytes.ending(ended);
+        let decimal = Layout::Decimal.ending(ended);
         // Kept: (c) a writer for each layout behind one function pointer was tried: no pointer to a generic function gets a proof.
         match self {
-            Layout::ThreeBytes => write_block::<ThreeBytes>(values, address, nominal, ending, out),
+            Layout::ThreeBytes => write_block::<ThreeBytes>(values, address, nominal, binary, out),
             Layout::ThreeBytesStatus => {
-                write_block::<ThreeBytesStatus>(values, address, nominal, ending, out)
+                write_block::<ThreeBytesStatus>(values, address, nominal, binary, out)
             }
             Layout::ThreeBytesReversed => {
-                write_block::<Reversed<ThreeBytes>>(values, address, nominal, ending, out)
+                write_block::<Reversed<ThreeBytes>>(values, address, nominal, binary, out)
             }
             Layout::ThreeBytesStatusReversed => {
-                write_block::<Reversed<ThreeBytesStatus>>(values, address, nominal, ending, out)
+                write_block::<Reversed<ThreeBytesStatus>>(values, address, nominal, binary, out)
             }
-            Layout::TwoBytes => write_block::<TwoBytes>(values, address, nominal, ending, out),
+            Layout::TwoBytes => write_block::<TwoBytes>(values, address, nominal, binary, out),
             Layout::TwoBytesReversed => {
-                write_block::<Reversed<TwoBytes>>(values, address, nominal, ending, out)
+                write_block::<Reversed<TwoBytes>>(values, address, nominal, binary, out)
             }
-            Layout::Decimal => write_block::<Decimal>(values, address, nominal, ending, out),
+            Layout::Decimal => write_block::<Decimal>(values, address, nominal, decimal, out),
             Layout::DecimalStatus => {
-                write_block::<DecimalStatus>(values, address, nominal, ending, out)
+                write_block::<DecimalStatus>(values, address, nominal, decimal, out)
             }
         }
     }

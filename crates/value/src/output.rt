@@ -75,13 +75,7 @@ impl OutputFormat {
     pub fn ending(self) -> Ending
         ensures { result ≡ ending_of self }
     {
-        if !self.ended {
-            Ending::Dropped
-        } else if self.layout.is_decimal() {
-            Ending::Each
-        } else {
-            Ending::Once
-        }
+        self.layout.ending(self.ended)
     }
 
     // Writes the values one after another, or nothing where they have no room: how many bytes were
@@ -93,7 +87,6 @@ impl OutputFormat {
         ensures apart { LayoutsApart }
         ensures room { BlocksHaveRoom }
     {
-        self.layout
-            .write(values, address, nominal, self.ending(), out)
+        self.layout.write(values, address, nominal, self.ended, out)
     }
 }
