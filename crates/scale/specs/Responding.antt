@@ -1,19 +1,34 @@
 -- What a scale does with one command, before a refusal is remembered.
-use Rattle.std.specs.Prelude.{ℕ, Bool, true, false, [], None, Ok, Err, Result}
+use Rattle.std.specs.Prelude.{ℕ, Bool, true, false, List, [], None, Ok, Err, Result}
 use Rattle.fault.specs.declared.faults.Fault.{Fault}
 use Rattle.bank.specs.Ports.{Port}
 use Rattle.command.specs.declared.orders.Heard.{Heard}
 use Rattle.command.specs.declared.orders.Heard.TheVariants.{Blank, Select, Command}
 use Rattle.command.specs.declared.orders.Order.{Order}
+use Rattle.value.specs.Plain.{plain_text, line}
+use Rattle.value.specs.declared.plain.Plain.TheVariants.{Done}
+use Rattle.scale.specs.declared.answers.Answer.{Answer}
+use Rattle.scale.specs.declared.answers.Answer.TheVariants.{Silence}
+use Rattle.scale.specs.declared.answers.Entered.{Entered}
+use Rattle.scale.specs.declared.answers.Entered.TheVariants.{Answered, Silent}
 use Rattle.scale.specs.declared.modes.Mode.{Mode}
 use Rattle.scale.specs.declared.modes.Mode.TheVariants.{Selected, Broadcast}
 use Rattle.scale.specs.declared.state.State.{State}
-use Rattle.scale.specs.Answers.{answer_bytes}
+use Rattle.scale.specs.Answers.{answer_bytes, done}
 use Rattle.scale.specs.Calibrating.{Acted, acted, dead_loads, full_loads, tares}
 use Rattle.scale.specs.Entries.{Said}
 use Rattle.scale.specs.Hearing.{Step, by_form, held_answer, obeys}
 use Rattle.scale.specs.Orders.{Task, KeepDead, SetFull, Tare, Weigh, Plain}
 use Rattle.scale.specs.States.{with_held}
+
+-- an entry that was obeyed: its answer, and the bytes of that
+abbrev pub answer_of : Entered → Answer
+answer_of Answered = done
+answer_of Silent = Silence
+
+abbrev pub entered_bytes : Entered → List ℕ
+entered_bytes Answered = line (plain_text Done)
+entered_bytes Silent = []
 
 -- whether values are to be measured
 abbrev pub for_values : Task → Bool

@@ -2,6 +2,7 @@
 ghost use Rattle.std.specs.Prelude.{◌≡◌, length};
 ghost use Rattle.value.specs.Written.{granted, written};
 ghost use Rattle.scale.specs.Answers.{ticket_bytes, answer_bytes};
+ghost use Rattle.scale.specs.Responding.{entered_bytes};
 
 use crate::state::Ticket;
 use bank::Address;
@@ -15,6 +16,26 @@ pub enum Answer {
     Line(Plain),
     Memory(Option<Fault>),
     Value(Ticket),
+}
+
+// How an entry that was obeyed is answered: by `0`, or not at all.
+#[derive(Clone, Copy)]
+pub enum Entered {
+    Answered,
+    Silent,
+}
+
+impl Entered {
+    // Writes the answer to the front of the buffer, or nothing where it has no room.
+    pub(crate) fn write(self, out: &mut [u8]) -> usize
+        ensures count { result ≡ length (granted out.old (entered_bytes self)) }
+        ensures buffer { out.new ≡ written out.old (entered_bytes self) }
+    {
+        match self {
+            Entered::Answered => Plain::Done.write(out),
+            Entered::Silent => 0,
+        }
+    }
 }
 
 impl Ticket {

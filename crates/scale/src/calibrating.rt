@@ -1,10 +1,12 @@
 // Calibrating and taring: what a scale does with loads of its own port.
 ghost use Rattle.std.specs.Prelude.{◌≡◌, ◌^◌, ◌≤◌, IfOk, unsigned_abs};
+ghost use Rattle.bank.specs.Fitting.{mapped_ok};
 ghost use Rattle.scale.specs.Measuring.{put_port};
+ghost use Rattle.scale.specs.Responding.{answer_of};
 ghost use Rattle.scale.specs.States.{calibrated};
 ghost use Rattle.scale.specs.Calibrating.{load_given, in_units, given_port, dead_loads, full_loads, tares};
 
-use crate::answers::Answer;
+use crate::answers::Entered;
 use crate::averaging::Averaging;
 use crate::display::Display;
 use crate::measuring::measure;
@@ -14,7 +16,6 @@ use crate::weighing::less;
 use bank::{Address, GaugeBank};
 use command::{Argument, Order};
 use fault::{Cause, Fault};
-use value::plain::Plain;
 use value::scaling::PER_DIGIT;
 
 // A load in whole digits.
@@ -63,8 +64,8 @@ impl Scale {
         bank: &mut B,
         address: Address,
         order: Order,
-    ) -> Result<Answer, Fault>
-        ensures answer { result ≡ (dead_loads address.number order self.old.state (B.shows bank.old address.number)).reply }
+    ) -> Result<Entered, Fault>
+        ensures answer { mapped_ok answer_of result ≡ (dead_loads address.number order self.old.state (B.shows bank.old address.number)).reply }
         ensures state { self.new.state ≡ (dead_loads address.number order self.old.state (B.shows bank.old address.number)).state }
         ensures ports { B.shows bank.new ≡ put_port (B.shows bank.old) address.number (dead_loads address.number order self.old.state (B.shows bank.old address.number)).port }
     {
@@ -73,7 +74,7 @@ impl Scale {
         }
         let dead = given_load(bank, address, self.state.force.averaging, order)?;
         self.state.pending = Some(dead);
-        Ok(Answer::Line(Plain::Done))
+        Ok(Entered::Answered)
     }
 
     // Puts the waiting dead load and a full load in force, and stores them.
@@ -82,8 +83,8 @@ impl Scale {
         bank: &mut B,
         address: Address,
         order: Order,
-    ) -> Result<Answer, Fault>
-        ensures answer { result ≡ (full_loads address.number order self.old.state (B.shows bank.old address.number)).reply }
+    ) -> Result<Entered, Fault>
+        ensures answer { mapped_ok answer_of result ≡ (full_loads address.number order self.old.state (B.shows bank.old address.number)).reply }
         ensures state { self.new.state ≡ (full_loads address.number order self.old.state (B.shows bank.old address.number)).state }
         ensures ports { B.shows bank.new ≡ put_port (B.shows bank.old) address.number (full_loads address.number order self.old.state (B.shows bank.old address.number)).port }
     {
@@ -97,7 +98,7 @@ impl Scale {
             return Err(Cause::SpanNotPositive.at(place));
         }
         self.state.calibrate(dead, full);
-        Ok(Answer::Line(Plain::Done))
+        Ok(Entered::Answered)
     }
 
     // Makes the gross load the tare, and shows the net weight.
@@ -105,14 +106,14 @@ impl Scale {
         &mut self,
         bank: &mut B,
         address: Address,
-    ) -> Result<Answer, Fault>
-        ensures answer { result ≡ (tares address.number self.old.state (B.shows bank.old address.number)).reply }
+    ) -> Result<Entered, Fault>
+        ensures answer { mapped_ok answer_of result ≡ (tares address.number self.old.state (B.shows bank.old address.number)).reply }
         ensures state { self.new.state ≡ (tares address.number self.old.state (B.shows bank.old address.number)).state }
         ensures ports { B.shows bank.new ≡ put_port (B.shows bank.old) address.number (tares address.number self.old.state (B.shows bank.old address.number)).port }
     {
         let measurement = measure(bank, address, self.state.force.averaging)?;
         self.state.force.tare = less(measurement.load, self.state.force.dead);
         self.state.force.display = Display::Net;
-        Ok(Answer::Line(Plain::Done))
+        Ok(Entered::Answered)
     }
 }

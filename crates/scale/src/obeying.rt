@@ -2,14 +2,17 @@
 ghost use Rattle.std.specs.Prelude.{◌≡◌, length};
 ghost use Rattle.bank.specs.Fitting.{mapped_ok};
 ghost use Rattle.value.specs.Written.{granted};
+ghost use Rattle.bank.specs.Ports.{none};
+ghost use Rattle.command.specs.declared.orders.Form.TheVariants.{Entry};
 ghost use Rattle.scale.specs.declared.modes.Mode.TheVariants.{Selected, Broadcast};
 ghost use Rattle.scale.specs.Blocks.{written_by};
 ghost use Rattle.scale.specs.Measuring.{put_port};
-ghost use Rattle.scale.specs.Hearing.{spoken, permitted, obeys};
+ghost use Rattle.scale.specs.Hearing.{aside, spoken, permitted, obeys};
 ghost use Rattle.scale.specs.Orders.{task_of};
-ghost use Rattle.scale.specs.Responding.{acts};
+ghost use Rattle.scale.specs.Queries.{asks};
+ghost use Rattle.scale.specs.Responding.{answer_of, acts};
 
-use crate::answers::Answer;
+use crate::answers::Entered;
 use crate::orders::{asks_values, block_size_of};
 use crate::scale::Scale;
 use bank::{Address, GaugeBank};
@@ -27,29 +30,36 @@ impl Scale {
         Ok(())
     }
 
-    // Does what an admitted order asks that is not for measured values: its answer, or why it is refused.
+    // Does what an admitted entry asks: how it is answered, or why it is refused.
     fn act<B: GaugeBank>(
         &mut self,
         address: Address,
         order: Order,
         bank: &mut B,
-    ) -> Result<Answer, Fault>
-        ensures answer { result ≡ (acts (task_of order.form order.name) address.number order self.old.state (B.shows bank.old address.number)).reply }
+    ) -> Result<Entered, Fault>
+        requires { order.form ≡ Entry }
+        ensures answer { mapped_ok answer_of result ≡ (acts (task_of order.form order.name) address.number order self.old.state (B.shows bank.old address.number)).reply }
         ensures state { self.new.state ≡ (acts (task_of order.form order.name) address.number order self.old.state (B.shows bank.old address.number)).state }
         ensures ports { B.shows bank.new ≡ put_port (B.shows bank.old) address.number (acts (task_of order.form order.name) address.number order self.old.state (B.shows bank.old address.number)).port }
     {
-        match order.form {
-            Form::Entry => match order.name {
-                Mnemonic::Ldw => self.keep_dead(bank, address, order),
-                Mnemonic::Lwt => self.set_full(bank, address, order),
-                Mnemonic::Tar => self.take_tare(bank, address),
-                _ => self.enter(address, order),
-            },
-            Form::Query => self.ask(order),
+        match order.name {
+            Mnemonic::Ldw => self.keep_dead(bank, address, order),
+            Mnemonic::Lwt => self.set_full(bank, address, order),
+            Mnemonic::Tar => self.take_tare(bank, address),
+            _ => self.enter(address, order),
         }
     }
 
-    // Does such an order and writes its answer: how many bytes, or why it is refused.
+    // Answers a query that needs no gauge: how many bytes were written, or why it is refused.
+    fn tell(&mut self, address: Address, order: Order, out: &mut [u8]) -> Result<usize, Fault>
+        ensures answer { result ≡ mapped_ok (λ bytes. length (granted out.old bytes)) (aside Selected address.number none (asks order self.old.state)).reply }
+        ensures state { self.new.state ≡ (asks order self.old.state).state }
+        ensures buffer { out.new ≡ written_by out.old (aside Selected address.number none (asks order self.old.state)).reply }
+    {
+        Ok(self.ask(order)?.write(address, out))
+    }
+
+    // Obeys an order that is not for measured values: how many bytes of answer were written, or why it is refused.
     fn answer<B: GaugeBank>(
         &mut self,
         address: Address,
@@ -62,7 +72,32 @@ impl Scale {
         ensures ports { B.shows bank.new ≡ put_port (B.shows bank.old) address.number (acts (task_of order.form order.name) address.number order self.old.state (B.shows bank.old address.number)).port }
         ensures buffer { out.new ≡ written_by out.old (spoken Selected address.number (acts (task_of order.form order.name) address.number order self.old.state (B.shows bank.old address.number))).reply }
     {
-        Ok(self.act(address, order, bank)?.write(address, out))
+        match order.form {
+            Form::Entry => Ok(self.act(address, order, bank)?.write(out)),
+            Form::Query => self.tell(address, order, out),
+        }
+    }
+
+    // Obeys such an order and answers nothing, or tells why it is refused.
+    fn act_unheard<B: GaugeBank>(
+        &mut self,
+        address: Address,
+        order: Order,
+        bank: &mut B,
+    ) -> Result<(), Fault>
+        ensures answer { result ≡ mapped_ok (λ _. tt) (spoken Broadcast address.number (acts (task_of order.form order.name) address.number order self.old.state (B.shows bank.old address.number))).reply }
+        ensures state { self.new.state ≡ (acts (task_of order.form order.name) address.number order self.old.state (B.shows bank.old address.number)).state }
+        ensures ports { B.shows bank.new ≡ put_port (B.shows bank.old) address.number (acts (task_of order.form order.name) address.number order self.old.state (B.shows bank.old address.number)).port }
+    {
+        match order.form {
+            Form::Entry => {
+                self.act(address, order, bank)?;
+            }
+            Form::Query => {
+                self.ask(order)?;
+            }
+        }
+        Ok(())
     }
 
     // The selected scale obeys one order, if it may: how many bytes of answer were written, or why it is refused.
@@ -84,21 +119,6 @@ impl Scale {
             return self.write_block(bank, address, block_size_of(order)?, out);
         }
         self.answer(address, order, bank, out)
-    }
-
-    // Does such an order and answers nothing, or tells why it is refused.
-    fn act_unheard<B: GaugeBank>(
-        &mut self,
-        address: Address,
-        order: Order,
-        bank: &mut B,
-    ) -> Result<(), Fault>
-        ensures answer { result ≡ mapped_ok (λ _. tt) (spoken Broadcast address.number (acts (task_of order.form order.name) address.number order self.old.state (B.shows bank.old address.number))).reply }
-        ensures state { self.new.state ≡ (acts (task_of order.form order.name) address.number order self.old.state (B.shows bank.old address.number)).state }
-        ensures ports { B.shows bank.new ≡ put_port (B.shows bank.old) address.number (acts (task_of order.form order.name) address.number order self.old.state (B.shows bank.old address.number)).port }
-    {
-        self.act(address, order, bank)?;
-        Ok(())
     }
 
     // One of all obeys an order, if it may, and answers nothing; it measures one value and holds it.
