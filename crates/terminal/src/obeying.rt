@@ -57,11 +57,14 @@ impl<B: GaugeBank> Terminal<B> {
         self.scales[address.index()].hear(mode, address, heard, &mut self.bank, out)
     }
 
-    // A broadcast: every scale that is present hears it, and nobody answers; what one would say is written over.
+    // A broadcast: every scale that is present hears it, and nobody answers; what one would say is written over. The select of all asks nothing of any scale.
     fn broadcast(&mut self, heard: Result<Heard, Fault>) -> Obeyed
         ensures state { bus B.shows self.new ≡ hearing (λ x. listens everyone x (present (B.shows self.old.bank x))) (bus B.shows self.old) heard }
         ensures value { result ≡ returned silence }
     {
+        if let Ok(Heard::Select(_)) = heard {
+            return SILENCE;
+        }
         let mut unsaid = [0; ROOM];
         for number in 0..SCALES as u8 {
             self.tell(Mode::Broadcast, Address { number }, heard, &mut unsaid);
@@ -88,10 +91,11 @@ impl<B: GaugeBank> Terminal<B> {
         ensures value { result ≡ returned (worded (bus B.shows self.old) heard) }
         ensures buffer { answer.new ≡ (worded (bus B.shows self.old) heard).says ++ drop result.written answer.old }
     {
-        if let Ok(Heard::Blank) = heard {
-            return SILENCE;
+        match heard {
+            Ok(Heard::Blank) => return SILENCE,
+            Ok(Heard::Select(pair)) => self.listening = Listening::call(pair),
+            _ => {}
         }
-        self.listening = self.listening.after(heard);
         self.pass_on(heard, answer)
     }
 
