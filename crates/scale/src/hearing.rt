@@ -139,7 +139,8 @@ impl Scale {
         }
     }
 
-    // Responds to what was read of one command, as the mode has it.
+    // Responds to what was read of one command, as the mode has it. It and `hear` are inlined, so that a caller who
+    // gives one mode alone is compiled for that.
     #[inline(always)]
     #[tactic(auto, using(crate::proofs::Responses::hears_is, crate::proofs::Sayings::silent, crate::proofs::Responses::unheard))]
     fn respond<B: GaugeBank>(

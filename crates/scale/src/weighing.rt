@@ -89,6 +89,7 @@ impl Scale {
     }
 
     // Measures once, where readings enough wait: net or gross, as the settings in force have it, and the status of both.
+    // Inlined, since a block calls it for each of its values.
     #[inline(always)]
     pub(crate) fn weigh<B: GaugeBank>(
         &self,

@@ -39,6 +39,7 @@ impl<B: GaugeBank> Terminal<B> {
     }
 
     // The scale at an address hears a command in a mode, if it is present, and writes its answer to the front of `out`.
+    // Inlined, since each caller gives one mode alone.
     #[inline(always)]
     fn tell(
         &mut self,
