@@ -1,11 +1,11 @@
 -- One gauge: its corner factor, and what it reads.
-use Rattle.std.specs.Prelude.{ℕ, cond, ◌&&◌, List, map, ℤ, pos, negsuc, ◌*ℤ◌, is_ok, Some, None, Ok, Err, Option, Result, ◌==◌, int_lt, nat_le}
+use Rattle.std.specs.Prelude.{ℕ, cond, ◌&&◌, List, map, ℤ, pos, negsuc, ◌*ℤ◌, is_ok, is_some, Some, None, Ok, Err, Option, Result, ◌==◌, int_lt, nat_le}
 use Rattle.fault.specs.declared.faults.Fault.{Fault}
 use Rattle.fault.specs.declared.causes.Cause.TheVariants.{FactorRange}
 use Rattle.fault.specs.Faults.{refusal}
 use Rattle.bank.specs.declared.reading.Reading.{Reading}
 use Rattle.bank.specs.Readings.{marked}
-use Rattle.bank.specs.Ports.{Port, none, ranged}
+use Rattle.bank.specs.Ports.{Port, none, ranged, rest}
 
 -- digits held to ±1,638,399
 abbrev pub held : ℤ → ℤ
@@ -23,6 +23,10 @@ gauged (Some f) ds = record { gauges = 1; waiting = map (reading f) ds }
 -- the digits that are due wait, where a gauge is fitted
 abbrev pub fitted : (ℕ → Option ℕ) → (ℕ → List ℤ) → ℕ → Port
 fitted f ds p = gauged (f p) (ds p)
+
+-- the digits that are due after a reading is taken at port p: only a fitted gauge takes one, and that of its own port
+abbrev pub due_after : (ℕ → Option ℕ) → (ℕ → List ℤ) → ℕ → ℕ → List ℤ
+due_after f ds p k = cond (nat_le p 31 && is_some (f p) && k == p) (rest (ds k)) (ds k)
 
 -- a corner factor lies within 500 to 1,500 thousandths
 abbrev pub tuned_to : ℕ → Option ℕ

@@ -1,7 +1,7 @@
 // Gauges whose digits come from a source.
 ghost use Rattle.std.specs.Prelude.{◌≡◌, ◌≤◌, ℕ, List, ℤ, length};
-ghost use Rattle.bank.specs.Gauges.{fits, refitted, fit_at, fitted};
-ghost use Rattle.bank.specs.Ports.{front, less_at};
+ghost use Rattle.bank.specs.Gauges.{fits, refitted, fit_at, fitted, due_after};
+ghost use Rattle.bank.specs.Ports.{front, less_at, first_at, rest_at, drawing};
 ghost use Rattle.bank.specs.Fitting.{factor_at, fitted_sound};
 
 use crate::fitting::Fitting;
@@ -73,7 +73,12 @@ impl<S: Source> GaugeBank for Gauges<S> {
         )
     }
 
-    fn take(&mut self, port: u8) -> Result<Reading, Fault> {
+    fn take(&mut self, port: u8) -> Result<Reading, Fault>
+        ensures answer { result ≡ first_at (fitted (factor_at self.old.fitting.factors) (S.Source.due self.old.source)) port }
+        ensures after { fitted (factor_at self.new.fitting.factors) (S.Source.due self.new.source) ≡ rest_at (fitted (factor_at self.old.fitting.factors) (S.Source.due self.old.source)) port }
+        ensures digits { S.Source.due self.new.source ≡ due_after (factor_at self.old.fitting.factors) (S.Source.due self.old.source) port }
+        ensures factors { factor_at self.new.fitting.factors ≡ factor_at self.old.fitting.factors }
+    {
         let place = checked_port(port)?;
         let empty = Cause::TooFewReadings.at(place.index());
         let factor = self.fitting.at(place).ok_or(empty)?;
@@ -94,7 +99,12 @@ impl<S: Source> GaugeBank for Gauges<S> {
         }
     }
 
-    fn draw(&mut self, port: Address) -> Drawn {
+    fn draw(&mut self, port: Address) -> Drawn
+        ensures answer { result ≡ drawing (fitted (factor_at self.old.fitting.factors) (S.Source.due self.old.source) port.number) }
+        ensures after { fitted (factor_at self.new.fitting.factors) (S.Source.due self.new.source) ≡ rest_at (fitted (factor_at self.old.fitting.factors) (S.Source.due self.old.source)) port.number }
+        ensures digits { S.Source.due self.new.source ≡ due_after (factor_at self.old.fitting.factors) (S.Source.due self.old.source) port.number }
+        ensures factors { factor_at self.new.fitting.factors ≡ factor_at self.old.fitting.factors }
+    {
         match self.fitting.at(port) {
             None => Drawn {
                 gauges: 0,
