@@ -14,5 +14,6 @@ returns-clause-after c =
     let long : p < length ds = search rules in
     let at_place : get_or ds place c.index-self-place-2.result ≡ get_or ds p still = (λ i. get_or ds (c.index-place.ensures i) c.index-self-place-2.result) ∙ get_or_default ds p c.index-self-place-2.result still long in
     let same : d ≡ get_or ds p still = (λ i. get_or ds (c.index-place.ensures i) c.index-self-place.result) ∙ get_or_default ds p c.index-self-place.result still long in
-    let less : c.in_ok-self.field-0 ≡ (get_or ds p still).conversions - 1 = c.in_ok-self.ensures.1 ∙ ap (λ (t : Dial). t.conversions - 1) same in
+    let taken : c.in_ok-self.field-0 ≡ d.conversions - 1 = search rules in
+    let less : c.in_ok-self.field-0 ≡ (get_or ds p still).conversions - 1 = taken ∙ ap (λ (t : Dial). t.conversions - 1) same in
     given_turned ds place p _ c.index-place.ensures long (λ i. record { digits = ap (λ (t : Dial). t.digits) at_place i; conversions = less i })
