@@ -1,7 +1,6 @@
 mod Fronts
 mod Splits
 mod Near
-mod Powers
 mod Sizes
 mod Leading
 mod Rows

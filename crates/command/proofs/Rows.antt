@@ -1,18 +1,10 @@
--- The row with given initials, looked for row by row, and the table as a whole. Assumes nothing.
-use Rattle.std.proofs.Common.{◌≡◌, ℕ, ◌<◌, cond, List, [], ◌∷◌, length, take, Some, None, refl, ap, arith}
-use Rattle.std.specs.List.{find}
+-- The table as a whole, and bytes too few for initials. Assumes nothing.
+use Rattle.std.proofs.Common.{◌≡◌, ℕ, ◌<◌, List, [], ◌∷◌, length, take, Some, None, refl, arith}
 use Rattle.command.specs.declared.orders.Mnemonic.{Mnemonic}
 use Rattle.command.specs.declared.orders.Mnemonic.TheVariants.{Cof, Icr, Nov, Rsn, Ldw, Lwt, Tar, Tas, Tav, Msv, Spw, Dpw, Tdd, Res, Esr}
 use Rattle.command.specs.declared.orders.Form.{Form}
-use Rattle.command.specs.declared.table.Row.{Row}
 use Rattle.command.specs.Readings.{sense_of}
-use Rattle.command.specs.Table.{rows, row_of, lookup, alike, WholeTable}
-
--- what is looked for row by row is the first row that is found
-pub find_is : (rs : List Row) (q : List ℕ) → find (λ (r : Row). alike r.initials q) rs ≡ lookup rs q
-unfolding lookup
-find_is [] q = refl
-find_is (r ∷ rs) q = ap (λ o. cond (alike r.initials q) (Some r) o) (find_is rs q)
+use Rattle.command.specs.Table.{rows, row_of, lookup, WholeTable}
 
 found : (n : Mnemonic) → ((row_of n).name ≡ n) × (lookup rows (row_of n).initials ≡ Some (row_of n))
 unfolding lookup

@@ -25,7 +25,7 @@ pub(crate) struct Numeral {
 }
 
 // The number that the leading digits of `text` write behind those of `start`, and what follows them.
-#[tactic(auto, using(crate::proofs::Leading::digit_front, crate::proofs::Leading::digit_back, crate::proofs::Leading::other_front, crate::proofs::Leading::other_back, crate::proofs::Leading::tenfold_more, crate::proofs::Leading::below))]
+#[tactic(auto, using(crate::proofs::Leading::other_front, crate::proofs::Leading::other_back))]
 fn leading_digits(start: u64, text: &[u8]) -> (u64, &[u8])
     requires { (start + 23) * 10 ^ length text.now ≤ 23 * 10 ^ 10 }
     ensures value { result.0 ≡ fold more start (front text.now) }
