@@ -1,10 +1,24 @@
 -- The table as a whole, and bytes too few for initials. Assumes nothing.
-use Rattle.std.proofs.Common.{◌≡◌, ℕ, ◌<◌, List, [], ◌∷◌, length, take, Some, None, refl, arith}
+use Rattle.std.proofs.Common.{◌≡◌, ℕ, ◌<◌, cond, List, [], ◌∷◌, length, take, Some, None, Option, refl, ap, ◌∙◌, arith}
+use Rattle.std.specs.List.{find}
+use Rattle.command.specs.declared.table.Row.{Row}
 use Rattle.command.specs.declared.orders.Mnemonic.{Mnemonic}
 use Rattle.command.specs.declared.orders.Mnemonic.TheVariants.{Cof, Icr, Nov, Rsn, Ldw, Lwt, Tar, Tas, Tav, Msv, Spw, Dpw, Tdd, Res, Esr}
 use Rattle.command.specs.declared.orders.Form.{Form}
 use Rattle.command.specs.Readings.{sense_of}
-use Rattle.command.specs.Table.{rows, row_of, lookup, WholeTable}
+use Rattle.command.specs.Table.{rows, row_of, lookup, in_capitals, capitals_of, WholeTable}
+
+-- what is looked for row by row in capitals is the first row that is found
+pub find_is : (rs : List Row) (q k : List ℕ) → length q ≡ 3 → k ≡ in_capitals q → find (λ (r : Row). capitals_of r.initials k) rs ≡ lookup rs q
+unfolding lookup
+find_is [] q k h e = refl
+find_is (r ∷ rs) [] k h e = absurd (omega arith)
+find_is (r ∷ rs) (a ∷ []) k h e = absurd (omega arith)
+find_is (r ∷ rs) (a ∷ b ∷ []) k h e = absurd (omega arith)
+find_is (r ∷ rs) (a ∷ b ∷ c ∷ []) k h e =
+    ap (λ (x : List ℕ). cond (capitals_of r.initials x) (Some r) (find (λ (s : Row). capitals_of s.initials k) rs)) e
+    ∙ ap (λ (o : Option Row). cond (capitals_of r.initials (in_capitals (a ∷ b ∷ c ∷ []))) (Some r) o) (find_is rs (a ∷ b ∷ c ∷ []) k h e)
+find_is (r ∷ rs) (a ∷ b ∷ c ∷ d ∷ q) k h e = absurd (omega arith)
 
 found : (n : Mnemonic) → ((row_of n).name ≡ n) × (lookup rows (row_of n).initials ≡ Some (row_of n))
 unfolding lookup

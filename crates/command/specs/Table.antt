@@ -68,6 +68,14 @@ alike a b =
     (length b == 3)
     && (slice_index a 0 == to_ascii_uppercase (slice_index b 0) && (slice_index a 1 == to_ascii_uppercase (slice_index b 1) && slice_index a 2 == to_ascii_uppercase (slice_index b 2)))
 
+-- three initials in capitals
+abbrev pub in_capitals : List ℕ → List ℕ
+in_capitals q = to_ascii_uppercase (slice_index q 0) ∷ to_ascii_uppercase (slice_index q 1) ∷ to_ascii_uppercase (slice_index q 2) ∷ []
+
+-- initials are those of a row, in capitals
+abbrev pub capitals_of : List ℕ → List ℕ → Bool
+capitals_of a q = slice_index a 0 == slice_index q 0 && (slice_index a 1 == slice_index q 1 && slice_index a 2 == slice_index q 2)
+
 -- the first row with these initials
 unfoldable pub lookup : List Row → List ℕ → Option Row
 lookup [] q = None

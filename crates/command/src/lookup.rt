@@ -3,35 +3,23 @@ ghost use Rattle.std.specs.Prelude.{◌≡◌, ◌<◌};
 ghost use Rattle.std.specs.Option.{option_map};
 ghost use Rattle.std.specs.Borrow.{Bor};
 ghost use Rattle.command.specs.declared.table.Row.{Row as TheRow};
-ghost use Rattle.command.specs.Table.{rows, row_of, place_of, lookup};
+ghost use Rattle.command.specs.Table.{rows, row_of, place_of, lookup, in_capitals, capitals_of};
 
 use crate::orders::Mnemonic;
 use crate::table::{Row, table};
 
-// The command whose row has these initials, in either case.
-#[tactic(auto, unfolding(crate::specs::Table::lookup))]
-fn named(initials: [u8; 3]) -> Option<Mnemonic>
-    ensures { option_map row_of result ≡ lookup rows initials }
+// Initials in capitals.
+fn capitals(initials: [u8; 3]) -> [u8; 3]
+    ensures { result ≡ in_capitals initials }
 {
-    let name = match &initials.map(|b| b.to_ascii_uppercase()) {
-        b"COF" => Mnemonic::Cof,
-        b"ICR" => Mnemonic::Icr,
-        b"NOV" => Mnemonic::Nov,
-        b"RSN" => Mnemonic::Rsn,
-        b"LDW" => Mnemonic::Ldw,
-        b"LWT" => Mnemonic::Lwt,
-        b"TAR" => Mnemonic::Tar,
-        b"TAS" => Mnemonic::Tas,
-        b"TAV" => Mnemonic::Tav,
-        b"MSV" => Mnemonic::Msv,
-        b"SPW" => Mnemonic::Spw,
-        b"DPW" => Mnemonic::Dpw,
-        b"TDD" => Mnemonic::Tdd,
-        b"RES" => Mnemonic::Res,
-        b"ESR" => Mnemonic::Esr,
-        _ => return None,
-    };
-    Some(name)
+    initials.map(|b| b.to_ascii_uppercase())
+}
+
+// Whether initials in capitals are those of a row.
+fn has(row: &Row, capitals: [u8; 3]) -> bool
+    ensures { result ≡ capitals_of row.now.initials capitals }
+{
+    row.initials == capitals
 }
 
 // The place of a command's row.
@@ -49,9 +37,10 @@ pub(crate) fn row_of(name: Mnemonic) -> &'static Row
     &table()[place(name)]
 }
 
-// The row with these initials, in either case.
+// The row with these initials, in either case: the first of the table that has them in capitals.
 pub(crate) fn find(initials: [u8; 3]) -> Option<&'static Row>
     ensures { option_map (λ (r : Bor TheRow). r.now) result ≡ lookup rows initials }
 {
-    named(initials).map(row_of)
+    let capitals = capitals(initials);
+    table().iter().find(|row| has(row, capitals))
 }
