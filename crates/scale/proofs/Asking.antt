@@ -1,5 +1,5 @@
 -- A query alters no setting.
-use Rattle.std.proofs.Common.{◌≡◌, ℕ, Bool, true, false, cond, List, Some, None, Ok, Err, Option, Result, refl}
+use Rattle.std.proofs.Common.{ℕ, Bool, true, false, cond, List, Some, None, Ok, Err, Option, Result, refl}
 use Rattle.fault.specs.declared.faults.Fault.{Fault}
 use Rattle.bank.specs.Ports.{Port}
 use Rattle.command.specs.Conditions.{broadcast_of}

@@ -1,5 +1,5 @@
 -- A measured value is exact.
-use Rattle.std.proofs.Common.{◌≡◌, ℕ, zero, suc, ◌<◌, ◌≤◌, Bool, true, false, cond, leb, List, [], ◌∷◌, length, drop, ℤ, pos, ◌-ℤ◌, ◌<ℤ◌, Some, None, Ok, Err, Result, refl, sym, subst, arith}
+use Rattle.std.proofs.Common.{◌≡◌, ℕ, zero, suc, ◌<◌, ◌≤◌, Bool, true, false, cond, leb, List, length, drop, pos, ◌-ℤ◌, ◌<ℤ◌, Ok, Err, Result, refl, subst, arith}
 use Rattle.std.proofs.lemmas.Bool.{le-leb}
 use Rattle.std.proofs.lemmas.Int.{ints}
 use Rattle.fault.specs.declared.faults.Fault.{Fault}
@@ -12,7 +12,6 @@ use Rattle.command.specs.declared.orders.Heard.TheVariants.{Command}
 use Rattle.command.specs.declared.orders.Mnemonic.TheVariants.{Msv}
 use Rattle.value.proofs.Products.{shown_law}
 use Rattle.value.specs.Output.{full_shown, format_block}
-use Rattle.scale.specs.declared.measuring.Measurement.{Measurement}
 use Rattle.scale.specs.declared.modes.Mode.TheVariants.{Selected, Broadcast}
 use Rattle.scale.specs.declared.settings.Settings.{Settings}
 use Rattle.scale.specs.declared.state.State.{State}

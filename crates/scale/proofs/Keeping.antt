@@ -1,5 +1,5 @@
 -- What commands leave as it was: refusals, restarts, the span and the held value.
-use Rattle.std.proofs.Common.{◌≡◌, ℕ, Bool, true, false, ◌||◌, List, [], ◌∷◌, ℤ, pos, ◌<ℤ◌, Some, None, Ok, Err, Option, Result, refl, sym, ap, subst, ◌∙◌, ◌⊎◌, ⊎_elim, arith}
+use Rattle.std.proofs.Common.{◌≡◌, ℕ, Bool, true, false, ◌||◌, List, [], ◌∷◌, ◌<ℤ◌, None, Ok, Err, Option, Result, refl, sym, ap, subst, ◌∙◌, ⊎_elim, arith}
 use Rattle.std.proofs.lemmas.Int.{ints}
 use Rattle.fault.specs.declared.faults.Fault.{Fault}
 use Rattle.bank.specs.Ports.{Port}
@@ -18,8 +18,7 @@ use Rattle.scale.specs.Exact.{SpansStay}
 use Rattle.scale.specs.Hearing.{held_answer, obeys, settled, hears}
 use Rattle.scale.specs.Keeping.{OrderKept, RefusalsKeep, NoneRemembered, OnlyRefusalsRemembered, RestartsRestore, Sent, after_all, fills, any_fills, HeldOnce}
 use Rattle.scale.specs.Orders.{task_of}
-use Rattle.scale.specs.States.{fresh}
-use Rattle.scale.proofs.Left.{Kept, Went, Left}
+use Rattle.scale.proofs.Left.{Left}
 use Rattle.scale.proofs.Obeyed.{gives, obeys_left}
 
 -- ---- refusals

@@ -1,43 +1,23 @@
 -- What one order leaves of a scale and its port: all but a few parts where it is refused, and what a good one may alter.
-use Rattle.std.proofs.Common.{◌≡◌, ◌⊎◌, ◌∙◌, ℕ, ◌≤◌, Bool, true, false, cond, eqb, ltb, leb, List, length, ℤ, pos, negsuc, ◌-ℤ◌, ◌<ℤ◌, Some, None, Ok, Err, Option, Result, refl, sym, ap, subst, inl, inr, arith}
+use Rattle.std.proofs.Common.{◌≡◌, ◌⊎◌, ◌∙◌, ℕ, Bool, true, false, cond, ltb, leb, length, ℤ, pos, negsuc, ◌<ℤ◌, Some, None, Ok, Err, Option, Result, refl, sym, ap, inl, arith}
 use Rattle.std.proofs.lemmas.Bool.{cond_both}
 use Rattle.std.proofs.lemmas.Int.{ints}
-use Rattle.std.specs.Option.{option_map}
 use lib.Signed.{lt_z}
 use Rattle.fault.specs.declared.faults.Fault.{Fault}
 use Rattle.bank.specs.Ports.{Port}
 use Rattle.bank.specs.Fitting.{mapped_ok}
-use Rattle.command.specs.Conditions.{needs_password, broadcast_of}
-use Rattle.command.specs.Texts.{same_text}
 use Rattle.command.specs.declared.orders.Argument.{Argument}
 use Rattle.command.specs.declared.orders.Argument.TheVariants.{Absent, Number, Text}
-use Rattle.command.specs.declared.orders.Form.{Form}
-use Rattle.command.specs.declared.orders.Form.TheVariants.{Entry, Query}
-use Rattle.command.specs.declared.orders.Mnemonic.{Mnemonic}
-use Rattle.command.specs.declared.orders.Mnemonic.TheVariants.{Cof, Icr, Nov, Rsn, Ldw, Lwt, Tar, Tas, Tav, Msv, Spw, Dpw, Tdd, Res, Esr}
 use Rattle.command.specs.declared.orders.Order.{Order}
-use Rattle.command.specs.declared.texts.Text.{Text as a_text}
-use Rattle.value.specs.Output.{numbered_format}
-use Rattle.scale.specs.declared.answers.Answer.{Answer}
-use Rattle.scale.specs.declared.answers.Answer.TheVariants.{Silence, Line, Memory, Value}
 use Rattle.scale.specs.declared.averaging.Averaging.{Averaging}
 use Rattle.scale.specs.declared.measuring.Measurement.{Measurement}
-use Rattle.scale.specs.declared.modes.Mode.{Mode}
-use Rattle.scale.specs.declared.modes.Mode.TheVariants.{Selected, Broadcast}
-use Rattle.scale.specs.declared.settings.Settings.{Settings}
 use Rattle.scale.specs.declared.state.State.{State}
-use Rattle.scale.specs.Blocks.{readings_for, holding, refused_or}
 use Rattle.scale.specs.Calibrating.{Acted, load_given, given_port, load_of, keeps, calibrates, full_over, tared, dead_loads, full_loads, tares}
-use Rattle.scale.specs.Choices.{readings_of, averaging_numbered, step_valued, display_numbered}
-use Rattle.scale.specs.Entering.{byte_of, by_byte, renominal, entered}
-use Rattle.scale.specs.Entries.{Said, put_in_force, set_by, opens, unlock_by, relock_by, default_at, default_by, enters_by}
+use Rattle.scale.specs.Choices.{readings_of}
 use Rattle.scale.specs.Bounds.{Spanned}
-use Rattle.scale.specs.Hearing.{Step, voiced, weighs, by_form, by_task, permitted_by, obeys_by, obeys}
-use Rattle.scale.specs.Keeping.{numbered, opened_left, port_left, weighs_by}
+use Rattle.scale.specs.Keeping.{numbered, opened_left, port_left}
 use Rattle.scale.specs.Measuring.{dropped, measurement, measures, measured_port}
-use Rattle.scale.specs.Orders.{Task, KeepDead, SetFull, Tare, Weigh, Plain, few, block_size, number_in, text_in, task_of}
-use Rattle.scale.specs.Queries.{tells, clears, asked_for}
-use Rattle.scale.specs.Settings.{with_format, with_averaging, with_nominal, with_step, with_display}
+use Rattle.scale.specs.Orders.{few, block_size, number_in, text_in}
 
 -- ---- what is left
 -- of a scale and its port after a refusal, before it is remembered

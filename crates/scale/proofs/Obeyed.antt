@@ -1,16 +1,13 @@
 -- What an order that needs no gauge, or any order, leaves of a scale and its port.
-use Rattle.std.proofs.Common.{◌≡◌, ◌⊎◌, ◌∙◌, ℕ, ◌≤◌, Bool, true, false, cond, eqb, ltb, leb, List, length, ℤ, pos, negsuc, ◌-ℤ◌, ◌<ℤ◌, Some, None, Ok, Err, Option, Result, refl, sym, ap, subst, inl, inr, arith}
+use Rattle.std.proofs.Common.{◌≡◌, ◌∙◌, ℕ, Bool, true, false, cond, eqb, leb, List, length, ℤ, pos, negsuc, ◌<ℤ◌, Some, None, Ok, Err, Option, Result, refl, sym, subst, inl, inr, arith}
 use Rattle.std.proofs.lemmas.Bool.{cond_both}
 use Rattle.std.proofs.lemmas.Int.{ints}
 use Rattle.std.specs.Option.{option_map}
-use lib.Signed.{lt_z}
 use Rattle.fault.specs.declared.faults.Fault.{Fault}
 use Rattle.bank.specs.Ports.{Port}
 use Rattle.bank.specs.Fitting.{mapped_ok}
-use Rattle.command.specs.Conditions.{needs_password, broadcast_of}
+use Rattle.command.specs.Conditions.{broadcast_of}
 use Rattle.command.specs.Texts.{same_text}
-use Rattle.command.specs.declared.orders.Argument.{Argument}
-use Rattle.command.specs.declared.orders.Argument.TheVariants.{Absent, Number, Text}
 use Rattle.command.specs.declared.orders.Form.{Form}
 use Rattle.command.specs.declared.orders.Form.TheVariants.{Entry, Query}
 use Rattle.command.specs.declared.orders.Mnemonic.{Mnemonic}
@@ -20,25 +17,20 @@ use Rattle.command.specs.declared.texts.Text.{Text as a_text}
 use Rattle.value.specs.Output.{numbered_format}
 use Rattle.scale.specs.declared.answers.Answer.{Answer}
 use Rattle.scale.specs.declared.answers.Answer.TheVariants.{Silence, Line, Memory, Value}
-use Rattle.scale.specs.declared.averaging.Averaging.{Averaging}
 use Rattle.scale.specs.declared.measuring.Measurement.{Measurement}
 use Rattle.scale.specs.declared.modes.Mode.{Mode}
 use Rattle.scale.specs.declared.modes.Mode.TheVariants.{Selected, Broadcast}
 use Rattle.scale.specs.declared.settings.Settings.{Settings}
 use Rattle.scale.specs.declared.state.State.{State}
 use Rattle.scale.specs.Blocks.{readings_for, holding, refused_or}
-use Rattle.scale.specs.Calibrating.{Acted, load_given, given_port, load_of, keeps, calibrates, full_over, tared, dead_loads, full_loads, tares}
 use Rattle.scale.specs.Choices.{readings_of, averaging_numbered, step_valued, display_numbered}
 use Rattle.scale.specs.Entering.{byte_of, by_byte, renominal, entered}
 use Rattle.scale.specs.Entries.{Said, put_in_force, set_by, opens, unlock_by, relock_by, default_at, default_by, enters_by}
-use Rattle.scale.specs.Bounds.{Spanned}
-use Rattle.scale.proofs.Left.{Kept, Went, Left, Tame, AllTame, unmoved, as_before, number_tame, text_tame, size_tame, dead_left, fulls_left, tares_left}
+use Rattle.scale.proofs.Left.{Went, Left, Tame, AllTame, unmoved, as_before, number_tame, text_tame, size_tame, dead_left, fulls_left, tares_left}
 use Rattle.scale.specs.Hearing.{Step, voiced, weighs, by_form, by_task, permitted_by, obeys_by, obeys}
-use Rattle.scale.specs.Keeping.{numbered, opened_left, port_left, weighs_by}
-use Rattle.scale.specs.Measuring.{dropped, measurement, measures, measured_port}
-use Rattle.scale.specs.Orders.{Task, KeepDead, SetFull, Tare, Weigh, Plain, few, block_size, number_in, text_in, task_of}
+use Rattle.scale.specs.Orders.{Task, KeepDead, SetFull, Tare, Weigh, Plain, block_size, number_in, text_in, task_of, for_values}
 use Rattle.scale.specs.Queries.{tells, clears, asked_for}
-use Rattle.scale.specs.Settings.{with_format, with_averaging, with_nominal, with_step, with_display}
+use Rattle.scale.specs.Settings.{with_format, with_averaging, with_step, with_display}
 
 -- ---- orders that leave the port alone
 abbrev LeftS : Order → State → Port → Said → Type 0
@@ -157,7 +149,7 @@ hold_left o s p q false x f h = unmoved f o s p h
 -- whether an order of a task may leave a value to hand out
 abbrev pub gives : Mode → Task → Bool
 gives Selected t = false
-gives Broadcast t = weighs_by t
+gives Broadcast t = for_values t
 
 weighs_left : (m : Mode) (a : ℕ) (o : Order) (s : State) (p : Port) (r : Result ℕ Fault) → AllTame r → LeftW (gives m Weigh) o s p (weighs m a s p r)
 weighs_left Selected a o s p (Err f) h = unmoved f o s p h
@@ -171,7 +163,7 @@ any_mode : (m : Mode) (b c : Bool) (o : Order) (s : State) (p : Port) (t : State
 any_mode m b c o s p t q a (Ok x) h e = record { memory = h.memory; held = λ k. h.held (sym e ∙ k); spans = h.spans }
 any_mode m b c o s p t q a (Err f) h e = h
 
-quiet : (m : Mode) (t : Task) → weighs_by t ≡ false → gives m t ≡ false
+quiet : (m : Mode) (t : Task) → for_values t ≡ false → gives m t ≡ false
 quiet Selected t h = refl
 quiet Broadcast t h = h
 
@@ -186,7 +178,7 @@ permitted_left : (b : Bool) (m : Mode) (a : ℕ) (o : Order) (s : State) (p : Po
 permitted_left true m a o s p f h = unmoved f o s p h
 permitted_left false m a o s p f h = task_left (task_of o.form o.name) m a o s p
 
-broadcast_left : (b : Bool) (a : ℕ) (o : Order) (s : State) (p : Port) (f : Fault) → Tame f → LeftW (weighs_by (task_of o.form o.name)) o s p (obeys_by Broadcast a s p (permitted_by a s (cond b (Err f) (Ok o))))
+broadcast_left : (b : Bool) (a : ℕ) (o : Order) (s : State) (p : Port) (f : Fault) → Tame f → LeftW (for_values (task_of o.form o.name)) o s p (obeys_by Broadcast a s p (permitted_by a s (cond b (Err f) (Ok o))))
 broadcast_left true a o s p f h = unmoved f o s p h
 broadcast_left false a o s p f h = permitted_left _ Broadcast a o s p _ (refl, refl)
 

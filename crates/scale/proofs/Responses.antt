@@ -9,8 +9,8 @@ use Rattle.scale.specs.declared.modes.Mode.{Mode}
 use Rattle.scale.specs.declared.modes.Mode.TheVariants.{Selected, Broadcast}
 use Rattle.scale.specs.declared.state.State.{State}
 use Rattle.scale.specs.Hearing.{Outcome, Step, spoken, by_task, in_order, permitted, permitted_by, obeys_by, obeys, ordered_by, hears}
-use Rattle.scale.specs.Orders.{Task, KeepDead, SetFull, Tare, Weigh, Plain, task_of}
-use Rattle.scale.specs.Responding.{for_values, acts, responds}
+use Rattle.scale.specs.Orders.{Task, KeepDead, SetFull, Tare, Weigh, Plain, task_of, for_values}
+use Rattle.scale.specs.Responding.{acts, responds}
 
 -- a refusal is remembered, and only the selected scale tells of it
 pub hears_is : (m : Mode) (a : ℕ) (h : Result Heard Fault) (s : State) (p : Port) → hears m a h s p ≡ ordered_by m (responds m a h s p)

@@ -1,5 +1,5 @@
 -- The exact weight: the span that stays above 0, and what a measured value shows.
-use Rattle.std.specs.Prelude.{◌≡◌, ℕ, ◌≤◌, Bool, List, [], ◌∷◌, length, drop, None, Some, Ok, Result, ℤ, ◌-ℤ◌, ◌*ℤ◌}
+use Rattle.std.specs.Prelude.{◌≡◌, ℕ, ◌≤◌, List, [], ◌∷◌, length, drop, None, Some, Ok, Result, ℤ, ◌-ℤ◌, ◌*ℤ◌}
 use Rattle.fault.specs.declared.faults.Fault.{Fault}
 use Rattle.bank.specs.declared.reading.Reading.{Reading}
 use Rattle.bank.specs.Ports.{Port}

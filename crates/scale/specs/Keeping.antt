@@ -1,5 +1,5 @@
 -- What commands leave of a scale as it was: the laws of refusals, queries, restarting and the held value.
-use Rattle.std.specs.Prelude.{◌≡◌, ℕ, Bool, true, false, cond, ◌||◌, List, [], ◌∷◌, None, Some, Ok, Err, Result, ◌==◌, ◌⊎◌}
+use Rattle.std.specs.Prelude.{◌≡◌, ℕ, Bool, false, cond, ◌||◌, List, [], ◌∷◌, None, Some, Ok, Err, Result, ◌==◌, ◌⊎◌}
 use Rattle.fault.specs.declared.faults.Fault.{Fault}
 use Rattle.fault.specs.Causes.{described}
 use Rattle.bank.specs.Ports.{Port}
@@ -19,7 +19,7 @@ use Rattle.scale.specs.declared.state.State.{State}
 use Rattle.scale.specs.Answers.{answer_bytes}
 use Rattle.scale.specs.Calibrating.{given_port}
 use Rattle.scale.specs.Hearing.{Outcome, in_mode, held_answer, obeys, hears}
-use Rattle.scale.specs.Orders.{Task, KeepDead, SetFull, Tare, Weigh, Plain, task_of}
+use Rattle.scale.specs.Orders.{task_of, for_values}
 use Rattle.scale.specs.States.{restarted}
 
 -- a fault of this number
@@ -102,18 +102,11 @@ unfoldable pub after_all : ℕ → List Sent → State → State
 after_all a [] s = s
 after_all a (x ∷ xs) s = after_all a xs (hears x.mode a x.heard s x.port).state
 
-abbrev pub weighs_by : Task → Bool
-weighs_by KeepDead = false
-weighs_by SetFull = false
-weighs_by Tare = false
-weighs_by Weigh = true
-weighs_by Plain = false
-
 abbrev pub asks_values : Result Heard Fault → Bool
 asks_values (Err f) = false
 asks_values (Ok Blank) = false
 asks_values (Ok (Select n)) = false
-asks_values (Ok (Command o)) = weighs_by (task_of o.form o.name)
+asks_values (Ok (Command o)) = for_values (task_of o.form o.name)
 
 -- measured values are asked of all in a broadcast: this alone gives a scale a value to be handed out
 abbrev pub fills : Mode → Result Heard Fault → Bool

@@ -13,4 +13,6 @@ pub mod Queries
 pub mod Blocks
 pub mod Hearing
 pub mod Responding
+pub mod Keeping
+pub mod Exact
 pub mod Laws

@@ -1,5 +1,5 @@
 -- What an order asks of a scale.
-use Rattle.std.specs.Prelude.{ℕ, cond, ◌&&◌, ℤ, pos, negsuc, Ok, Err, Result, nat_le}
+use Rattle.std.specs.Prelude.{ℕ, Bool, true, false, cond, ◌&&◌, ℤ, pos, negsuc, Ok, Err, Result, nat_le}
 use Rattle.fault.specs.declared.faults.Fault.{Fault}
 use Rattle.fault.specs.declared.causes.Cause.TheVariants.{Malformed, OutOfRange}
 use Rattle.fault.specs.Faults.{refusal}
@@ -57,6 +57,14 @@ query_task Esr = Plain
 abbrev pub task_of : Form → Mnemonic → Task
 task_of Entry n = entry_task n
 task_of Query n = query_task n
+
+-- whether values are to be measured
+abbrev pub for_values : Task → Bool
+for_values KeepDead = false
+for_values SetFull = false
+for_values Tare = false
+for_values Weigh = true
+for_values Plain = false
 
 abbrev pub number_in : Argument → ℕ → Result ℤ Fault
 number_in Absent place = Err (refusal Malformed place)

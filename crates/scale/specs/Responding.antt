@@ -1,5 +1,5 @@
 -- What a scale does with one command, before a refusal is remembered.
-use Rattle.std.specs.Prelude.{ℕ, Bool, true, false, List, [], None, Ok, Err, Result}
+use Rattle.std.specs.Prelude.{ℕ, List, [], None, Ok, Err, Result}
 use Rattle.fault.specs.declared.faults.Fault.{Fault}
 use Rattle.bank.specs.Ports.{Port}
 use Rattle.command.specs.declared.orders.Heard.{Heard}
@@ -29,14 +29,6 @@ answer_of Silent = Silence
 abbrev pub entered_bytes : Entered → List ℕ
 entered_bytes Answered = line (plain_text Done)
 entered_bytes Silent = []
-
--- whether values are to be measured
-abbrev pub for_values : Task → Bool
-for_values KeepDead = false
-for_values SetFull = false
-for_values Tare = false
-for_values Weigh = true
-for_values Plain = false
 
 -- any other order, and its answer
 abbrev pub beside : Port → Said → Acted

@@ -28,7 +28,7 @@ pub struct Hearing {
 }
 
 // Nothing was written, and nothing refused.
-const NOTHING: Hearing = Hearing {
+pub const SILENCE: Hearing = Hearing {
     written: 0,
     fault: None,
 };
@@ -161,7 +161,7 @@ impl Scale {
             Mode::Selected => self.hear_alone(address, heard, bank, out),
             Mode::Broadcast => {
                 self.overhear(address, heard, bank);
-                NOTHING
+                SILENCE
             }
         }
     }

@@ -23,7 +23,7 @@ mod weighing;
 pub use averaging::Averaging;
 pub use bank::Address;
 pub use display::Display;
-pub use hearing::{Hearing, ROOM};
+pub use hearing::{Hearing, ROOM, SILENCE};
 pub use modes::Mode;
 pub use scale::Scale;
 pub use settings::Settings;

@@ -1,7 +1,6 @@
 // What an order asks of a scale.
 ghost use Rattle.std.specs.Prelude.{◌≡◌};
-ghost use Rattle.scale.specs.Orders.{number_in, text_in, block_size, task_of};
-ghost use Rattle.scale.specs.Responding.{for_values};
+ghost use Rattle.scale.specs.Orders.{number_in, text_in, block_size, task_of, for_values};
 
 use command::{Argument, Form, Mnemonic, Order, Text};
 use fault::{Cause, Fault};

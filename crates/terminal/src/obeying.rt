@@ -9,13 +9,7 @@ use crate::terminal::{SCALES, Terminal};
 use bank::{Address, GaugeBank};
 use command::{Heard, read};
 use fault::{Cause, Fault};
-use scale::{Mode, Scale};
-
-// Nothing is answered.
-const SILENCE: Obeyed = Obeyed {
-    written: 0,
-    fault: None,
-};
+use scale::{Mode, SILENCE, Scale};
 
 impl<B: GaugeBank> Terminal<B> {
     // A terminal over a bank, with 32 new scales; nobody listens.
