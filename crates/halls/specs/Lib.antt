@@ -4,3 +4,4 @@ pub mod Order
 pub mod Words
 pub mod Escapes
 pub mod Told
+pub mod Lines

@@ -1,4 +1,7 @@
 // Reads one line of a script.
+ghost use Rattle.std.specs.Prelude.{◌≡◌};
+ghost use Rattle.halls.specs.Lines.{verb_of, kind_of};
+
 use crate::escapes::unescaped;
 use crate::requests::{Kind, Reason, Request, Talk};
 use crate::stages::Stage;
@@ -27,6 +30,8 @@ enum Verb {
 impl TryFrom<&[u8]> for Verb {
     type Error = Reason;
 
+    ghost try_from_gives = { λ word r. r ≡ verb_of word.now };
+
     fn try_from(word: &[u8]) -> Result<Verb, Reason> {
         match word {
             b"bank" => Ok(Verb::Bank),
@@ -47,6 +52,8 @@ impl TryFrom<&[u8]> for Verb {
 
 impl TryFrom<&[u8]> for Kind {
     type Error = Reason;
+
+    ghost try_from_gives = { λ word r. r ≡ kind_of word.now };
 
     fn try_from(word: &[u8]) -> Result<Kind, Reason> {
         match word {
