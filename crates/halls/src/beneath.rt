@@ -1,8 +1,10 @@
 // The bank beneath the boxes: dials or a recording.
-ghost use Rattle.std.specs.Prelude.{◌≡◌, ℕ, Option};
+ghost use Rattle.std.specs.Prelude.{◌≡◌, ℕ, Some, None, Option, IfNone};
+ghost use Rattle.std.specs.Option.{option_map};
 ghost use Rattle.bank.specs.Gauges.{refitted, fit_at};
 ghost use Rattle.bank.specs.Fitting.{factor_at};
-ghost use Rattle.halls.specs.Beneath.{factors_of, shown_by, sound_of};
+ghost use Rattle.bank.specs.Dials.{Setting, setting_at, set_at, placed};
+ghost use Rattle.halls.specs.Beneath.{factors_of, settings_of, chosen, shown_by, sound_of};
 
 use crate::requests::Kind;
 use bank::{Dials, GaugeBank, Reading, Recording};
@@ -13,17 +15,27 @@ pub trait Fitted {
     // The corner factor of each port that has a gauge.
     ghost factors: { Self → ℕ → Option ℕ };
 
+    // What the dial of each port is set to, where the bank has dials.
+    ghost settings: { Self → Option (ℕ → Setting) };
+
     // Gives a port one gauge with a corner factor in thousandths, in place of any that it has.
     fn fit(&mut self, port: u8, thousandths: u16) -> Result<(), Fault>
         ensures answer { result ≡ refitted port thousandths }
-        ensures after { factors self.new ≡ fit_at (factors self.old) port thousandths };
+        ensures after { factors self.new ≡ fit_at (factors self.old) port thousandths }
+        ensures settings { settings self.new ≡ settings self.old };
 
     // Sets a port's dial, where the bank has dials.
-    fn set(&mut self, port: u8, digits: i32, conversions: u16) -> Option<Result<(), Fault>>;
+    fn set(&mut self, port: u8, digits: i32, conversions: u16) -> Option<Result<(), Fault>>
+        ensures answer { result ≡ option_map (λ s. placed port) (settings self.old) }
+        ensures after { settings self.new ≡ option_map (λ s. set_at s port (record { digits = digits; conversions = conversions })) (settings self.old) }
+        ensures factors { factors self.new ≡ factors self.old }
+        ensures otherwise { IfNone (settings self.old) (self.new ≡ self.old) };
 }
 
 impl Fitted for Dials {
     ghost factors = { λ s. factor_at s.fitting.factors };
+
+    ghost settings = { λ s. Some (setting_at s.source.dials) };
 
     fn fit(&mut self, port: u8, thousandths: u16) -> Result<(), Fault> {
         Dials::fit(self, port, thousandths)
@@ -36,6 +48,8 @@ impl Fitted for Dials {
 
 impl Fitted for Recording<'_> {
     ghost factors = { λ s. factor_at s.fitting.factors };
+
+    ghost settings = { λ s. None };
 
     fn fit(&mut self, port: u8, thousandths: u16) -> Result<(), Fault> {
         Recording::fit(self, port, thousandths)
@@ -56,7 +70,9 @@ pub enum Beneath<D, R> {
 
 impl<D: Drop, R: Drop> Beneath<D, R> {
     // The one of two banks that is of a kind.
-    pub fn of_kind(kind: Kind, dials: D, recording: R) -> Beneath<D, R> {
+    pub fn of_kind(kind: Kind, dials: D, recording: R) -> Beneath<D, R>
+        ensures { result ≡ chosen kind dials recording }
+    {
         match kind {
             Kind::Dials => Beneath::Dialled(dials),
             Kind::Recording => Beneath::Recorded(recording),
@@ -66,6 +82,8 @@ impl<D: Drop, R: Drop> Beneath<D, R> {
 
 impl<D: Fitted, R: Fitted> Fitted for Beneath<D, R> {
     ghost factors = { λ s. factors_of D.Fitted.factors R.Fitted.factors s };
+
+    ghost settings = { λ s. settings_of D.Fitted.settings R.Fitted.settings s };
 
     fn fit(&mut self, port: u8, thousandths: u16) -> Result<(), Fault> {
         match self {
