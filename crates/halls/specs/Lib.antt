@@ -4,4 +4,5 @@ pub mod Order
 pub mod Words
 pub mod Escapes
 pub mod Told
+pub mod Verbs
 pub mod Lines

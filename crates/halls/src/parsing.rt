@@ -1,6 +1,8 @@
 // Reads one line of a script.
-ghost use Rattle.std.specs.Prelude.{◌≡◌};
-ghost use Rattle.halls.specs.Lines.{verb_of, kind_of};
+ghost use Rattle.std.specs.Prelude.{◌≡◌, IfOk};
+ghost use Rattle.std.specs.Option.{option_map};
+ghost use Rattle.halls.specs.Verbs.{verb_of, kind_of};
+ghost use Rattle.halls.specs.Lines.{asked, talked, fit_of, set_of, record_of, join_of, roomy_of, roomy_seen, talk_of, asked_by, opening_of, opening_seen, request_of, request_seen, blank, idle};
 
 use crate::escapes::unescaped;
 use crate::requests::{Kind, Reason, Request, Talk};
@@ -65,7 +67,9 @@ impl TryFrom<&[u8]> for Kind {
 }
 
 // PORT FACTOR.
-fn fit(rest: &[u8]) -> Option<Request> {
+fn fit(rest: &[u8]) -> Option<Request>
+    ensures { option_map asked result ≡ fit_of rest.now }
+{
     let (port, thousandths) = parted(rest, b' ')?;
     Some(Request::Fit {
         port: byte_number(port)?,
@@ -74,7 +78,9 @@ fn fit(rest: &[u8]) -> Option<Request> {
 }
 
 // PORT DIGITS CONVERSIONS.
-fn set(rest: &[u8]) -> Option<Request> {
+fn set(rest: &[u8]) -> Option<Request>
+    ensures { option_map asked result ≡ set_of rest.now }
+{
     let (port, rest) = parted(rest, b' ')?;
     let (digits, conversions) = parted(rest, b' ')?;
     Some(Request::Set {
@@ -85,7 +91,9 @@ fn set(rest: &[u8]) -> Option<Request> {
 }
 
 // PORT DIGITS.
-fn record(rest: &[u8]) -> Option<Request> {
+fn record(rest: &[u8]) -> Option<Request>
+    ensures { option_map asked result ≡ record_of rest.now }
+{
     let (port, digits) = parted(rest, b' ')?;
     Some(Request::Record(Record {
         port: byte_number(port)?,
@@ -94,7 +102,9 @@ fn record(rest: &[u8]) -> Option<Request> {
 }
 
 // LEVEL BELOW ABOVE.
-fn join(rest: &[u8]) -> Option<Request> {
+fn join(rest: &[u8]) -> Option<Request>
+    ensures { option_map asked result ≡ join_of rest.now }
+{
     let (level, rest) = parted(rest, b' ')?;
     let (below, above) = parted(rest, b' ')?;
     let stage = Stage::of_level(byte_number(level)?)?;
@@ -106,13 +116,17 @@ fn join(rest: &[u8]) -> Option<Request> {
 }
 
 // ROOM BYTES, the bytes as they are written.
-fn roomy(rest: &[u8]) -> Option<(usize, &[u8])> {
+fn roomy(rest: &[u8]) -> Option<(usize, &[u8])>
+    ensures { roomy_seen result ≡ roomy_of rest.now }
+{
     let (room, text) = parted(rest, b' ')?;
     Some((room_number(room)?, text))
 }
 
 // ROOM BYTES.
-fn talk(heap: Global, rest: &[u8]) -> Result<Option<Talk>, AllocError> {
+fn talk(heap: Global, rest: &[u8]) -> Result<Option<Talk>, AllocError>
+    ensures { IfOk result (λ o. option_map talked o ≡ talk_of rest.now) }
+{
     let Some((room, text)) = roomy(rest) else {
         return Ok(None);
     };
@@ -120,7 +134,9 @@ fn talk(heap: Global, rest: &[u8]) -> Result<Option<Talk>, AllocError> {
 }
 
 // The request of a verb and of what stands behind the space after it; none where that is malformed.
-fn request_of(heap: Global, verb: Verb, rest: &[u8]) -> Result<Option<Request>, AllocError> {
+fn request_of(heap: Global, verb: Verb, rest: &[u8]) -> Result<Option<Request>, AllocError>
+    ensures { IfOk result (λ o. option_map asked o ≡ asked_by verb rest.now) }
+{
     match verb {
         Verb::Bank => Ok(Kind::try_from(rest).ok().map(Request::Bank)),
         Verb::Fit => Ok(fit(rest)),
@@ -137,21 +153,35 @@ fn request_of(heap: Global, verb: Verb, rest: &[u8]) -> Result<Option<Request>, 
 }
 
 // The verb of a line, and what stands behind the space after it. Every request has something behind its first word.
-fn opening(line: &[u8]) -> Result<(Verb, &[u8]), Reason> {
-    let (word, rest) = parted(line, b' ').map_or((line, None), |(word, rest)| (word, Some(rest)));
-    let verb = Verb::try_from(word)?;
-    Ok((verb, rest.ok_or(Reason::Malformed)?))
+fn opening(line: &[u8]) -> Result<(Verb, &[u8]), Reason>
+    ensures { opening_seen result ≡ opening_of line.now }
+{
+    let Some((word, rest)) = parted(line, b' ') else {
+        return Verb::try_from(line).and(Err(Reason::Malformed));
+    };
+    Ok((Verb::try_from(word)?, rest))
 }
 
 // The request of a line, or why it is refused.
-pub fn request(heap: Global, line: &[u8]) -> Result<Result<Request, Reason>, AllocError> {
+pub fn request(heap: Global, line: &[u8]) -> Result<Result<Request, Reason>, AllocError>
+    ensures { IfOk result (λ r. request_seen r ≡ request_of line.now) }
+{
     match opening(line) {
         Ok((verb, rest)) => Ok(request_of(heap, verb, rest)?.ok_or(Reason::Malformed)),
         Err(reason) => Ok(Err(reason)),
     }
 }
 
-// Whether a line asks for nothing: a comment, or nothing but spaces.
-pub fn is_idle(line: &[u8]) -> bool {
-    line.first() == Some(&b'#') || line.iter().all(|byte| *byte == b' ')
+// Whether a line is empty, or nothing but spaces.
+fn is_blank(line: &[u8]) -> bool
+    ensures { result ≡ blank line.now }
+{
+    line.iter().all(|byte| *byte == b' ')
+}
+
+// Whether a line asks for nothing: a comment, or blank.
+pub fn is_idle(line: &[u8]) -> bool
+    ensures { result ≡ idle line.now }
+{
+    line.first() == Some(&b'#') || is_blank(line)
 }

@@ -1,6 +1,6 @@
 use Rattle.std.proofs.Common.{codes, sym, ap, arith, rules}
 use Rattle.std.proofs.lemmas.Slice.Eq.{text_from_reads}
-use Rattle.halls.specs.Lines.{verb_of}
+use Rattle.halls.specs.Verbs.{verb_of}
 use Rattle.halls.proofs.parsing.VerbTryFromRefSliceU8.try_from.Goals as goal
 
 pub returns-in-record : goal.returns-in-record
