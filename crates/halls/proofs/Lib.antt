@@ -1,3 +1,4 @@
 mod Numerals
 mod Decoding
 mod ReadBack
+mod AskedFor

@@ -6,3 +6,4 @@ pub mod Escapes
 pub mod Told
 pub mod Verbs
 pub mod Lines
+pub mod Scripts
