@@ -2,3 +2,4 @@ mod Numerals
 mod Decoding
 mod ReadBack
 mod AskedFor
+mod Lines
