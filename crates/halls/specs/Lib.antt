@@ -7,3 +7,4 @@ pub mod Told
 pub mod Verbs
 pub mod Lines
 pub mod Scripts
+pub mod Stands

@@ -1,6 +1,10 @@
 // Who answers the requests of each stage: the bank, a box, the terminal.
 ghost use Rattle.std.specs.Prelude.{◌≡◌, IfOk};
+ghost use Rattle.halls.specs.declared.answers.Answer.{Answer};
+ghost use Rattle.halls.specs.declared.requests.Request.{Request};
 ghost use Rattle.halls.specs.Told.{box_tells, box_feeds, Tells};
+ghost use Rattle.halls.specs.Beneath.{factors_of, settings_of};
+ghost use Rattle.halls.specs.Stands.{bank_tells, bank_factors, bank_settings, terminal_tells, others_tell};
 
 use crate::answers::Answer;
 use crate::beneath::{Beneath, Fitted};
@@ -13,8 +17,16 @@ use terminal::Terminal;
 
 // What answers requests.
 pub trait Answering {
+    // Which answers a request may have.
+    ghost tells: { Self → Request → Answer → Type 0 };
+
+    // What a request leaves.
+    ghost leaves: { Self → Request → Self → Type 0 };
+
     // The answer to a request; one of another stage is out of order.
-    fn answer(&mut self, heap: Global, request: &Request) -> Result<Answer, AllocError>;
+    fn answer(&mut self, heap: Global, request: &Request) -> Result<Answer, AllocError>
+        ensures answer { IfOk result (tells self.old request.now) }
+        ensures after { leaves self.old request.now self.new };
 }
 
 // The answer to a split.
@@ -29,7 +41,9 @@ fn split_answer(heap: Global, bytes: &[u8]) -> Result<Answer, AllocError> {
 }
 
 // The answer to a request that belongs to any stage.
-fn anywhere(heap: Global, request: &Request) -> Result<Answer, AllocError> {
+fn anywhere(heap: Global, request: &Request) -> Result<Answer, AllocError>
+    ensures { IfOk result (Tells (others_tell request.now)) }
+{
     match request {
         Request::Split(bytes) => split_answer(heap, bytes.as_slice()),
         _ => Ok(Answer::Refused(Reason::OutOfOrder)),
@@ -37,6 +51,11 @@ fn anywhere(heap: Global, request: &Request) -> Result<Answer, AllocError> {
 }
 
 impl<D: Fitted, R: Fitted> Answering for Beneath<D, R> {
+    ghost tells = { λ s r. Tells (bank_tells (settings_of D.Fitted.settings R.Fitted.settings s) r) };
+
+    ghost leaves = { λ s r t. (factors_of D.Fitted.factors R.Fitted.factors t ≡ bank_factors (factors_of D.Fitted.factors R.Fitted.factors s) r)
+        × (settings_of D.Fitted.settings R.Fitted.settings t ≡ bank_settings (settings_of D.Fitted.settings R.Fitted.settings s) r) };
+
     fn answer(&mut self, heap: Global, request: &Request) -> Result<Answer, AllocError> {
         match request {
             Request::Bank(_) | Request::Record(_) => Ok(Answer::Done),
@@ -55,10 +74,11 @@ impl<D: Fitted, R: Fitted> Answering for Beneath<D, R> {
 }
 
 impl<B: GaugeBank> Answering for JunctionBox<B> {
-    fn answer(&mut self, heap: Global, request: &Request) -> Result<Answer, AllocError>
-        ensures answer { IfOk result (Tells (box_tells (B.GaugeBank.shows self.old.below) self.old.feeds request.now)) }
-        ensures feeds { self.new.feeds ≡ box_feeds (B.GaugeBank.shows self.old.below) self.old.feeds request.now }
-    {
+    ghost tells = { λ s r. Tells (box_tells (B.GaugeBank.shows s.below) s.feeds r) };
+
+    ghost leaves = { λ s r t. t.feeds ≡ box_feeds (B.GaugeBank.shows s.below) s.feeds r };
+
+    fn answer(&mut self, heap: Global, request: &Request) -> Result<Answer, AllocError> {
         match request {
             Request::Join { join, .. } => Ok(self.join(join.below, join.above).into()),
             Request::Gauges(port) => Ok(self.gauges(*port).map(u16::from).into()),
@@ -84,6 +104,10 @@ fn written<T, F: FnOnce(&mut [u8]) -> (T, usize)>(
 }
 
 impl<B: GaugeBank> Answering for Terminal<B> {
+    ghost tells = { λ s r. Tells (terminal_tells r) };
+
+    ghost leaves = { λ s r t. Unit {0} };
+
     fn answer(&mut self, heap: Global, request: &Request) -> Result<Answer, AllocError> {
         match request {
             Request::Obey(talk) => {
