@@ -1,5 +1,5 @@
 -- What a box answers to a request, and what its feeding map is after it.
-use Rattle.std.specs.Prelude.{◌≡◌, ℕ, Some, None, Ok, Err, Option, Result}
+use Rattle.std.specs.Prelude.{ℕ, Some, None, Ok, Err, Option, Result}
 use Rattle.fault.specs.declared.faults.Fault.{Fault}
 use Rattle.bank.specs.declared.reading.Reading.{Reading}
 use Rattle.bank.specs.Ports.{Port, gauges_at, waiting_at, first_at}
@@ -51,8 +51,3 @@ box_feeds m fs (Record x) = fs
 box_feeds m fs (Obey t) = fs
 box_feeds m fs (Serve t) = fs
 box_feeds m fs (Split bs) = fs
-
--- an answer is the one told, where one is
-abbrev pub Tells : Option Answer → Answer → Type 0
-Tells None a = Unit {0}
-Tells (Some x) a = a ≡ x
