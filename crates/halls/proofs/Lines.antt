@@ -1,6 +1,6 @@
 -- One line of a script after another.
 use Rattle.std.proofs.Common.{◌≡◌, ℕ, ◌+◌, ◌<◌, ◌≤◌, List, ◌∷◌, length, get_or, drop, ◌==◌, sym, ap, ◌∙◌, arith}
-use Rattle.std.specs.List.{slice_split, enumerate_from}
+use Rattle.std.specs.List.{slice_split}
 use Rattle.std.proofs.lemmas.List.{at_drop_more}
 use Rattle.std.proofs.lemmas.List.FromFn.{length-enumerate_from, get_or-enumerate_from}
 use Rattle.std.proofs.lemmas.List.Splits.{length-slice_split}

@@ -13,7 +13,7 @@ use Rattle.halls.specs.declared.answers.Answer.{Answer}
 use Rattle.halls.specs.declared.answers.Answer.TheVariants.{Done, Refused, Faulty, Cut, Obeying, Serving}
 use Rattle.halls.specs.declared.requests.Reason.TheVariants.{OutOfOrder, OtherBank}
 use Rattle.halls.specs.declared.requests.Request.{Request}
-use Rattle.halls.specs.declared.requests.Request.TheVariants.{Bank, Fit, Set, Record, Join, Gauges, Waiting, Take, Obey, Serve, Split}
+use Rattle.halls.specs.declared.requests.Request.TheVariants.{Bank, Fit, Set, Record, Obey, Serve, Split}
 use Rattle.halls.specs.Told.{told_done, box_tells}
 
 -- ---- requests of any stage, and of another
