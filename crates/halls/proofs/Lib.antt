@@ -3,3 +3,4 @@ mod Decoding
 mod ReadBack
 mod AskedFor
 mod Lines
+mod Parting

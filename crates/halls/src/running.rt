@@ -1,5 +1,8 @@
 // Goes through a script's steps, stage by stage, and prints a line for each.
-ghost use Rattle.std.specs.Prelude.{◌≡◌, ◌++◌};
+ghost use Rattle.std.specs.Prelude.{◌≡◌, ◌++◌, ◌≤◌, ◌<◌, length};
+ghost use Rattle.std.specs.List.Sorted.{IsNonDecreasingBy, IsPartitionPoint};
+ghost use Rattle.halls.specs.Order.{step_rank};
+ghost use Rattle.halls.specs.Stages.{rank};
 
 use crate::answering::Answering;
 use crate::answers::Answer;
@@ -15,7 +18,8 @@ use terminal::Terminal;
 
 // The steps up to the end of a stage, and those after it.
 fn through(steps: &[Step], stage: Stage) -> (&[Step], &[Step])
-    ensures { result.0.now ++ result.1.now ≡ steps.now }
+    ensures whole { result.0.now ++ result.1.now ≡ steps.now }
+    ensures parted { IsNonDecreasingBy step_rank steps.now → IsPartitionPoint (λ s. step_rank s ≤ rank stage) (λ s. rank stage < step_rank s) steps.now (length result.0.now) }
 {
     let end = steps.partition_point(|step| !step.stage.is_after(stage));
     steps.split_at(end)
