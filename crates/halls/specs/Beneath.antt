@@ -1,5 +1,5 @@
 -- What the bank beneath the boxes means: what its dials mean, or its recording.
-use Rattle.std.specs.Prelude.{ℕ, Option}
+use Rattle.std.specs.Prelude.{ℕ, List, ℤ, Option}
 use Rattle.bank.specs.Ports.{Port, Sound}
 use Rattle.bank.specs.Dials.{Setting}
 use Rattle.halls.specs.declared.beneath.Beneath.{Beneath}
@@ -21,6 +21,11 @@ factors_of f g (Recorded r) = g r
 abbrev pub settings_of : {D R : Type 0} → (D → Option (ℕ → Setting)) → (R → Option (ℕ → Setting)) → Beneath D R → Option (ℕ → Setting)
 settings_of f g (Dialled d) = f d
 settings_of f g (Recorded r) = g r
+
+-- the digits that are due at each port
+abbrev pub due_of : {D R : Type 0} → (D → ℕ → List ℤ) → (R → ℕ → List ℤ) → Beneath D R → ℕ → List ℤ
+due_of f g (Dialled d) = f d
+due_of f g (Recorded r) = g r
 
 abbrev pub shown_by : {D R : Type 0} → (D → ℕ → Port) → (R → ℕ → Port) → Beneath D R → ℕ → Port
 shown_by f g (Dialled d) p = f d p

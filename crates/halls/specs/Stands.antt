@@ -7,13 +7,14 @@ use Rattle.bank.specs.Gauges.{refitted, fit_at}
 use Rattle.bank.specs.Dials.{Setting, set_at, placed}
 use Rattle.command.specs.Cuts.{cut_of}
 use Rattle.junction.specs.declared.feeds.Feeds.{Feeds}
+use Rattle.junction.specs.Gather.{below_after}
 use Rattle.terminal.specs.Buses.{Bus, Word, told, uttered, returned}
 use Rattle.terminal.specs.Serves.{served, afters, answered, report_of}
 use Rattle.halls.specs.declared.answers.Answer.{Answer}
 use Rattle.halls.specs.declared.answers.Answer.TheVariants.{Done, Refused, Faulty, Cut, Obeying, Serving}
 use Rattle.halls.specs.declared.requests.Reason.TheVariants.{OutOfOrder, OtherBank}
 use Rattle.halls.specs.declared.requests.Request.{Request}
-use Rattle.halls.specs.declared.requests.Request.TheVariants.{Bank, Fit, Set, Record, Obey, Serve, Split}
+use Rattle.halls.specs.declared.requests.Request.TheVariants.{Bank, Fit, Set, Record, Obey, Serve, Split, Take}
 use Rattle.halls.specs.Told.{told_done, box_tells}
 
 -- ---- requests of any stage, and of another
@@ -57,6 +58,11 @@ TellsOr (Some x) P a = a ≡ x
 
 abbrev pub BoxTells : (ℕ → Port) → Feeds → Request → Answer → Type 0
 BoxTells m fs r a = TellsOr (box_tells m fs r) (OthersTell r a) a
+
+-- what its bank shows after it: only a take alters that
+abbrev pub box_below : (ℕ → Port) → Feeds → Request → ℕ → Port
+box_below m fs (Take p) = below_after fs m p
+box_below m fs _ = m
 
 -- ---- a terminal whose bus is b
 abbrev pub ObeysAs : Word → Answer → Type 0

@@ -1,13 +1,13 @@
 // Who answers the requests of each stage: the bank, a box, the terminal.
-ghost use Rattle.std.specs.Prelude.{◌≡◌, Bool, IfOk, cond, is_ok, vec_items};
+ghost use Rattle.std.specs.Prelude.{◌≡◌, Bool, IfNone, IfOk, cond, is_ok, vec_items};
 ghost use Rattle.command.specs.Cuts.{cut_of};
 ghost use Rattle.terminal.specs.Buses.{bus, told, uttered};
 ghost use Rattle.terminal.specs.Serves.{served, afters};
 ghost use Rattle.halls.specs.declared.answers.Answer.{Answer};
 ghost use Rattle.halls.specs.declared.requests.Request.{Request};
-ghost use Rattle.halls.specs.Beneath.{factors_of, settings_of};
+ghost use Rattle.halls.specs.Beneath.{factors_of, settings_of, due_of};
 ghost use Rattle.halls.specs.Told.{box_feeds};
-ghost use Rattle.halls.specs.Stands.{CutsAs, OthersTell, BankTells, bank_factors, bank_settings, BoxTells, ObeysAs, ServesAs, TerminalTells, terminal_after};
+ghost use Rattle.halls.specs.Stands.{CutsAs, OthersTell, BankTells, bank_factors, bank_settings, BoxTells, box_below, ObeysAs, ServesAs, TerminalTells, terminal_after};
 
 use crate::answers::Answer;
 use crate::beneath::{Beneath, Fitted};
@@ -59,7 +59,8 @@ impl<D: Fitted, R: Fitted> Answering for Beneath<D, R> {
     ghost tells = { λ s r. BankTells (settings_of D.Fitted.settings R.Fitted.settings s) r };
 
     ghost leaves = { λ s r ok t. (factors_of D.Fitted.factors R.Fitted.factors t ≡ bank_factors (factors_of D.Fitted.factors R.Fitted.factors s) r)
-        × (settings_of D.Fitted.settings R.Fitted.settings t ≡ bank_settings (settings_of D.Fitted.settings R.Fitted.settings s) r) };
+        × (settings_of D.Fitted.settings R.Fitted.settings t ≡ bank_settings (settings_of D.Fitted.settings R.Fitted.settings s) r)
+        × IfNone (settings_of D.Fitted.settings R.Fitted.settings s) (due_of D.Fitted.due R.Fitted.due t ≡ due_of D.Fitted.due R.Fitted.due s) };
 
     fn answer(&mut self, heap: Global, request: &Request) -> Result<Answer, AllocError> {
         match request {
@@ -81,7 +82,8 @@ impl<D: Fitted, R: Fitted> Answering for Beneath<D, R> {
 impl<B: GaugeBank> Answering for JunctionBox<B> {
     ghost tells = { λ s r. BoxTells (B.GaugeBank.shows s.below) s.feeds r };
 
-    ghost leaves = { λ s r ok t. t.feeds ≡ box_feeds (B.GaugeBank.shows s.below) s.feeds r };
+    ghost leaves = { λ s r ok t. (t.feeds ≡ box_feeds (B.GaugeBank.shows s.below) s.feeds r)
+        × (B.GaugeBank.shows t.below ≡ box_below (B.GaugeBank.shows s.below) s.feeds r) };
 
     fn answer(&mut self, heap: Global, request: &Request) -> Result<Answer, AllocError> {
         match request {

@@ -1,10 +1,11 @@
 // The bank beneath the boxes: dials or a recording.
-ghost use Rattle.std.specs.Prelude.{◌≡◌, ℕ, Some, None, Option, IfNone};
+ghost use Rattle.std.specs.Prelude.{◌≡◌, ℕ, List, ℤ, Some, None, Option, IfNone};
 ghost use Rattle.std.specs.Option.{option_map};
 ghost use Rattle.bank.specs.Gauges.{refitted, fit_at};
 ghost use Rattle.bank.specs.Fitting.{factor_at};
-ghost use Rattle.bank.specs.Dials.{Setting, setting_at, set_at, placed};
-ghost use Rattle.halls.specs.Beneath.{factors_of, settings_of, chosen, shown_by, sound_of};
+ghost use Rattle.bank.specs.Dials.{Setting, setting_at, set_at, placed, given};
+ghost use Rattle.bank.specs.Records.{due_at};
+ghost use Rattle.halls.specs.Beneath.{factors_of, settings_of, due_of, chosen, shown_by, sound_of};
 
 use crate::requests::Kind;
 use bank::{Dials, GaugeBank, Reading, Recording};
@@ -18,11 +19,15 @@ pub trait Fitted {
     // What the dial of each port is set to, where the bank has dials.
     ghost settings: { Self → Option (ℕ → Setting) };
 
+    // The digits that are due at each port.
+    ghost due: { Self → ℕ → List ℤ };
+
     // Gives a port one gauge with a corner factor in thousandths, in place of any that it has.
     fn fit(&mut self, port: u8, thousandths: u16) -> Result<(), Fault>
         ensures answer { result ≡ refitted port thousandths }
         ensures after { factors self.new ≡ fit_at (factors self.old) port thousandths }
-        ensures settings { settings self.new ≡ settings self.old };
+        ensures settings { settings self.new ≡ settings self.old }
+        ensures due { due self.new ≡ due self.old };
 
     // Sets a port's dial, where the bank has dials.
     fn set(&mut self, port: u8, digits: i32, conversions: u16) -> Option<Result<(), Fault>>
@@ -37,6 +42,8 @@ impl Fitted for Dials {
 
     ghost settings = { λ s. Some (setting_at s.source.dials) };
 
+    ghost due = { λ s. given (setting_at s.source.dials) };
+
     fn fit(&mut self, port: u8, thousandths: u16) -> Result<(), Fault> {
         Dials::fit(self, port, thousandths)
     }
@@ -50,6 +57,8 @@ impl Fitted for Recording<'_> {
     ghost factors = { λ s. factor_at s.fitting.factors };
 
     ghost settings = { λ s. None };
+
+    ghost due = { λ s. due_at s.source.records.now s.source.cursors };
 
     fn fit(&mut self, port: u8, thousandths: u16) -> Result<(), Fault> {
         Recording::fit(self, port, thousandths)
@@ -84,6 +93,8 @@ impl<D: Fitted, R: Fitted> Fitted for Beneath<D, R> {
     ghost factors = { λ s. factors_of D.Fitted.factors R.Fitted.factors s };
 
     ghost settings = { λ s. settings_of D.Fitted.settings R.Fitted.settings s };
+
+    ghost due = { λ s. due_of D.Fitted.due R.Fitted.due s };
 
     fn fit(&mut self, port: u8, thousandths: u16) -> Result<(), Fault> {
         match self {
