@@ -77,7 +77,7 @@ impl<S: Source> GaugeBank for Gauges<S> {
         ensures answer { result ≡ first_at (fitted (factor_at self.old.fitting.factors) (S.Source.due self.old.source)) port }
         ensures after { fitted (factor_at self.new.fitting.factors) (S.Source.due self.new.source) ≡ rest_at (fitted (factor_at self.old.fitting.factors) (S.Source.due self.old.source)) port }
         ensures digits { S.Source.due self.new.source ≡ due_after (factor_at self.old.fitting.factors) (S.Source.due self.old.source) port }
-        ensures factors { factor_at self.new.fitting.factors ≡ factor_at self.old.fitting.factors }
+        ensures fitting { self.new.fitting ≡ self.old.fitting }
     {
         let place = checked_port(port)?;
         let empty = Cause::TooFewReadings.at(place.index());
@@ -103,7 +103,7 @@ impl<S: Source> GaugeBank for Gauges<S> {
         ensures answer { result ≡ drawing (fitted (factor_at self.old.fitting.factors) (S.Source.due self.old.source) port.number) }
         ensures after { fitted (factor_at self.new.fitting.factors) (S.Source.due self.new.source) ≡ rest_at (fitted (factor_at self.old.fitting.factors) (S.Source.due self.old.source)) port.number }
         ensures digits { S.Source.due self.new.source ≡ due_after (factor_at self.old.fitting.factors) (S.Source.due self.old.source) port.number }
-        ensures factors { factor_at self.new.fitting.factors ≡ factor_at self.old.fitting.factors }
+        ensures fitting { self.new.fitting ≡ self.old.fitting }
     {
         match self.fitting.at(port) {
             None => Drawn {
