@@ -12,7 +12,7 @@ const SEMICOLON: u8 = b';';
 // So many bytes are looked at together: few commands have more.
 const NEAR: usize = 16;
 
-// Where the first byte stands that is `x` or `y`, if one of the first sixteen is.
+// Where the first byte stands that is `x` or `y`, if one of the first sixteen is; none where there are fewer.
 fn near(bytes: &[u8], x: u8, y: u8) -> Option<usize>
     ensures { IfSome result (λ n. (first_of x y bytes.now ≡ Some n) × (n < length bytes.now)) }
 {

@@ -18,7 +18,7 @@ use gathering::{all_counts, draw_fed, dry_port, fed_counts};
 // The most gauges that may feed one port.
 const MOST: u16 = 8;
 
-// A bank, and which port above each of its ports feeds. The counts of each port above are kept, since nothing but the box's own draws alters them.
+// A bank, and which port above each of its ports feeds. The counts of each port above are kept: nothing but the box's own draws alters the bank below, and a join counts anew.
 #[derive(Drop)]
 pub struct JunctionBox<B: GaugeBank> {
     below: B,

@@ -1,5 +1,5 @@
 -- A measured value is exact.
-use Rattle.std.proofs.Common.{◌≡◌, ℕ, zero, suc, ◌<◌, ◌≤◌, Bool, true, false, cond, leb, List, length, drop, pos, ◌-ℤ◌, ◌<ℤ◌, Ok, Err, Result, refl, subst, arith}
+use Rattle.std.proofs.Common.{◌≡◌, ℕ, zero, suc, ◌<◌, ◌≤◌, Bool, true, false, cond, leb, List, length, drop, pos, negsuc, ◌-ℤ◌, ◌<ℤ◌, Ok, Err, Result, refl, subst, arith}
 use Rattle.std.proofs.lemmas.Bool.{le-leb}
 use Rattle.std.proofs.lemmas.Int.{ints}
 use Rattle.fault.specs.declared.faults.Fault.{Fault}
@@ -7,7 +7,7 @@ use Rattle.bank.specs.declared.reading.Reading.{Reading}
 use Rattle.bank.specs.Ports.{Port}
 use Rattle.command.specs.Conditions.{needs_password, broadcast_of}
 use Rattle.command.specs.declared.orders.Argument.{Argument}
-use Rattle.command.specs.declared.orders.Argument.TheVariants.{Absent}
+use Rattle.command.specs.declared.orders.Argument.TheVariants.{Absent, Number, Text}
 use Rattle.command.specs.declared.orders.Heard.TheVariants.{Command}
 use Rattle.command.specs.declared.orders.Mnemonic.TheVariants.{Msv}
 use Rattle.value.proofs.Products.{shown_law}
@@ -57,6 +57,7 @@ block_answered a k s p true f h e = record {
   many = length_weighings s.force k p.waiting;
   exact = weighings_all s.force k p.waiting h.0;
   says = refl;
+  state = refl;
   port = refl;
   fault = refl;
 }
@@ -79,7 +80,7 @@ value_held : (s : State) (p : Port) (b : Bool) (f : Fault) → Spanned s → b �
     HeldExact s p (settled Broadcast (holding s (cond b (Ok (measurement s.force.averaging p.waiting)) (Err f))) (cond b (dropped (readings_of s.force.averaging) p) p) (refused_or (cond b (Ok (measurement s.force.averaging p.waiting)) (Err f))))
 value_held s p true f h e = record {
   ticket = ticket_of s.force (measurement s.force.averaging p.waiting);
-  held = refl;
+  state = refl;
   exact = weighed_exact s.force p.waiting h.0;
   format = refl;
   nominal = refl;
@@ -87,9 +88,25 @@ value_held s p true f h e = record {
 }
 value_held s p false f h e = absurd (grind arith)
 
-held_exact : (a place : ℕ) (s : State) (p : Port) → Spanned s → readings_of s.force.averaging ≤ length p.waiting → HeldExact s p (hears Broadcast a (Ok (Command (query Msv Absent place))) s p)
+held_one : (a place : ℕ) (s : State) (p : Port) → Spanned s → readings_of s.force.averaging ≤ length p.waiting → HeldExact s p (hears Broadcast a (Ok (Command (query Msv Absent place))) s p)
 unfolding hears obeys needs_password broadcast_of
-held_exact a place s p h w = value_held s p (leb (readings_of s.force.averaging) (length p.waiting)) _ h (le-leb (readings_of s.force.averaging) (length p.waiting) w)
+held_one a place s p h w = value_held s p (leb (readings_of s.force.averaging) (length p.waiting)) _ h (le-leb (readings_of s.force.averaging) (length p.waiting) w)
+
+held_numbered : (a place : ℕ) (s : State) (p : Port) → Spanned s → readings_of s.force.averaging ≤ length p.waiting → HeldExact s p (hears Broadcast a (Ok (Command (query Msv (Number (pos 1)) place))) s p)
+unfolding hears obeys needs_password broadcast_of
+held_numbered a place s p h w = value_held s p (leb (readings_of s.force.averaging) (length p.waiting)) _ h (le-leb (readings_of s.force.averaging) (length p.waiting) w)
+
+-- a number that asks for one value
+one_asked : (b : Bool) (n : ℕ) (f : Fault) → cond b (Ok n) (Err f) ≡ Ok 1 → 1 ≡ n
+one_asked true n f e = cc
+one_asked false n f e = absurd (grind arith)
+
+held_exact : (a place : ℕ) (x : Argument) (s : State) (p : Port) → Spanned s → block_size x place ≡ Ok 1 → readings_of s.force.averaging ≤ length p.waiting → HeldExact s p (hears Broadcast a (Ok (Command (query Msv x place))) s p)
+held_exact a place Absent s p h e w = held_one a place s p h w
+held_exact a place (Number (pos n)) s p h e w =
+    subst (λ (k : ℕ). HeldExact s p (hears Broadcast a (Ok (Command (query Msv (Number (pos k)) place))) s p)) (one_asked _ n _ e) (held_numbered a place s p h w)
+held_exact a place (Number (negsuc n)) s p h e w = absurd (grind arith)
+held_exact a place (Text t) s p h e w = absurd (grind arith)
 
 pub weighings_exact : WeighingsExact
-weighings_exact = record { answered = answered; held = held_exact }
+weighings_exact = record { answered = answered; held = held_exact; weighed = weighed_exact }

@@ -1,5 +1,5 @@
 -- What one order leaves of a scale and its port: all but a few parts where it is refused, and what a good one may alter.
-use Rattle.std.proofs.Common.{◌≡◌, ◌⊎◌, ◌∙◌, ℕ, Bool, true, false, cond, ltb, leb, length, ℤ, pos, negsuc, ◌<ℤ◌, Some, None, Ok, Err, Option, Result, refl, sym, ap, inl, arith}
+use Rattle.std.proofs.Common.{◌≡◌, ◌∙◌, ℕ, Bool, true, false, cond, ltb, leb, length, ℤ, pos, negsuc, ◌<ℤ◌, Some, None, Ok, Err, Option, Result, refl, sym, ap, arith}
 use Rattle.std.proofs.lemmas.Bool.{cond_both}
 use Rattle.std.proofs.lemmas.Int.{ints}
 use lib.Signed.{lt_z}
@@ -15,7 +15,7 @@ use Rattle.scale.specs.declared.state.State.{State}
 use Rattle.scale.specs.Calibrating.{Acted, load_given, given_port, load_of, keeps, calibrates, full_over, tared, dead_loads, full_loads, tares}
 use Rattle.scale.specs.Choices.{readings_of}
 use Rattle.scale.specs.Bounds.{Spanned}
-use Rattle.scale.specs.Keeping.{numbered, opened_left, port_left}
+use Rattle.scale.specs.Keeping.{numbered, opened_left, port_left, Effect, Leaves, memory_left, held_left}
 use Rattle.scale.specs.Measuring.{dropped, measurement, measures, measured_port}
 use Rattle.scale.specs.Orders.{few, block_size, number_in, text_in}
 
@@ -30,15 +30,15 @@ pub record Kept (f : Fault) (o : Order) (s : State) (p : Port) (t : State) (q : 
   pub opened : t.opened ≡ opened_left f s
   pub port : q ≡ port_left f o s p
 
--- of a scale after a good order; b where the order may leave it a value to hand out
-pub record Went (b : Bool) (s t : State) : Type 0 where
-  pub memory : (t.memory ≡ s.memory) ⊎ (t.memory ≡ None)
-  pub held : b ≡ false → (t.held ≡ s.held) ⊎ (t.held ≡ None)
+-- of a scale after a good order of an effect; b where the order may leave it a value to hand out
+pub record Went (b : Bool) (e : Effect) (s t : State) : Type 0 where
+  pub memory : t.memory ≡ memory_left e s
+  pub held : b ≡ false → t.held ≡ held_left e s
   pub spans : Spanned s → Spanned t
 
-abbrev pub Left : {A : Type 0} → Bool → Order → State → Port → State → Port → Result A Fault → Type 0
-Left b o s p t q (Ok x) = Went b s t
-Left b o s p t q (Err f) = Kept f o s p t q
+abbrev pub Left : {A : Type 0} → Bool → Effect → Order → State → Port → State → Port → Result A Fault → Type 0
+Left b e o s p t q (Ok x) = Went b e s t
+Left b e o s p t q (Err f) = Kept f o s p t q
 
 -- a refusal that neither closes a scale nor uses readings up
 abbrev pub Tame : Fault → Type 0
@@ -63,8 +63,8 @@ pub unmoved : (f : Fault) (o : Order) (s : State) (p : Port) → Tame f → Kept
 unmoved f o s p h = moved f o s p p h refl
 
 -- all but the spans as before
-pub as_before : (b : Bool) (s t : State) → t.memory ≡ s.memory → t.held ≡ s.held → (Spanned s → Spanned t) → Went b s t
-as_before b s t m h x = record { memory = inl m; held = λ _. inl h; spans = x }
+pub as_before : (b : Bool) (s t : State) → t.memory ≡ s.memory → t.held ≡ s.held → (Spanned s → Spanned t) → Went b Leaves s t
+as_before b s t m h x = record { memory = m; held = λ _. h; spans = x }
 
 -- ---- which refusals are tame
 tame_map : {A B : Type 0} (g : A → B) (r : Result A Fault) → AllTame r → AllTame (mapped_ok g r)
@@ -125,7 +125,7 @@ given_back a v (Text t) place p = refl
 
 -- ---- orders that need the gauges
 abbrev LeftA : Order → State → Port → Acted → Type 0
-LeftA o s p x = Left false o s p x.state x.port x.reply
+LeftA o s p x = Left false Leaves o s p x.state x.port x.reply
 
 keeps_left : (o : Order) (s : State) (p q : Port) (r : Result ℤ Fault) → AllTame r → Back p q r → LeftA o s p (keeps s q r)
 keeps_left o s p q (Ok z) h k = as_before false s _ refl refl (λ x. x)

@@ -1,4 +1,4 @@
--- The bounds of the loads that a scale remembers, in 1/16,000 digit: no arithmetic on them leaves 64 bits, and a span is above 0.
+-- The bounds of the loads that a scale remembers, in 1/16,000 digit: no sum or difference of them leaves 64 bits, and a span is above 0.
 use Rattle.std.specs.Prelude.{◌^◌, ◌≤◌, ℤ, pos, Some, None, Option, ◌<ℤ◌, unsigned_abs}
 use Rattle.scale.specs.declared.settings.Settings.{Settings}
 use Rattle.scale.specs.declared.state.State.{State}

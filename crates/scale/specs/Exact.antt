@@ -1,10 +1,9 @@
 -- The exact weight: the span that stays above 0, and what a measured value shows.
-use Rattle.std.specs.Prelude.{◌≡◌, ℕ, ◌≤◌, List, [], ◌∷◌, length, drop, None, Some, Ok, Result, ℤ, ◌-ℤ◌, ◌*ℤ◌}
+use Rattle.std.specs.Prelude.{◌≡◌, ℕ, ◌≤◌, List, [], ◌∷◌, length, drop, None, Some, Ok, Result, ℤ, ◌-ℤ◌, ◌*ℤ◌, ◌<ℤ◌}
 use Rattle.fault.specs.declared.faults.Fault.{Fault}
 use Rattle.bank.specs.declared.reading.Reading.{Reading}
 use Rattle.bank.specs.Ports.{Port}
 use Rattle.command.specs.declared.orders.Argument.{Argument}
-use Rattle.command.specs.declared.orders.Argument.TheVariants.{Absent}
 use Rattle.command.specs.declared.orders.Heard.{Heard}
 use Rattle.command.specs.declared.orders.Heard.TheVariants.{Command}
 use Rattle.command.specs.declared.orders.Mnemonic.TheVariants.{Msv}
@@ -22,10 +21,10 @@ use Rattle.scale.specs.Bounds.{Spanned}
 use Rattle.scale.specs.Choices.{readings_of, weight_of, step_value}
 use Rattle.scale.specs.Hearing.{Outcome, hears}
 use Rattle.scale.specs.Keeping.{query}
-use Rattle.scale.specs.Measuring.{summed, marks, dropped}
+use Rattle.scale.specs.Measuring.{summed, marks, dropped, measurement}
 use Rattle.scale.specs.Orders.{block_size}
-use Rattle.scale.specs.States.{fresh}
-use Rattle.scale.specs.Weighing.{of_both, fits_in}
+use Rattle.scale.specs.States.{fresh, with_held}
+use Rattle.scale.specs.Weighing.{of_both, fits_in, weighed}
 
 -- the span, full load less dead load
 abbrev pub span : Settings → ℤ
@@ -59,27 +58,30 @@ unfoldable pub WeighsAll : Settings → List Reading → List Measured → Type 
 WeighsAll s xs [] = Unit {0}
 WeighsAll s xs (v ∷ vs) = Weighs s xs v × WeighsAll s (drop (readings_of s.averaging) xs) vs
 
--- k values, written in the format in force; their readings are used up
+-- k values, written in the format in force; their readings are used up, and the scale remembers all as before
 pub record Answered (a k : ℕ) (s : State) (p : Port) (x : Outcome) : Type 0 where
   pub values : List Measured
   pub many : length values ≡ k
   pub exact : WeighsAll s.force p.waiting values
   pub says : x.says ≡ format_block s.force.format s.force.nominal a values
+  pub state : x.state ≡ s
   pub port : x.port ≡ dropped (readings_for s.force k) p
   pub fault : x.fault ≡ None
 
--- one value, held with the format and the nominal value of the moment, by which it will be handed out
+-- one value, held with the format and the nominal value of the moment, by which it will be handed out; nothing else is altered
 pub record HeldExact (s : State) (p : Port) (x : Outcome) : Type 0 where
   pub ticket : Ticket
-  pub held : x.state.held ≡ Some ticket
+  pub state : x.state ≡ with_held s (Some ticket)
   pub exact : Weighs s.force p.waiting ticket.measured
   pub format : ticket.format ≡ s.force.format
   pub nominal : ticket.nominal ≡ s.force.nominal
   pub port : x.port ≡ dropped (readings_of s.force.averaging) p
 
--- where readings enough wait, the selected scale answers as many exact values as it is asked for; in a broadcast each holds one
+-- where readings enough wait, the selected scale answers as many exact values as it is asked for; in a broadcast each holds one.
+-- A weighing is exact under any settings whose full load is above the dead load.
 pub record WeighingsExact : Type 0 where
   pub answered : (a k place : ℕ) (x : Argument) (s : State) (p : Port) → Spanned s → block_size x place ≡ Ok k → readings_for s.force k ≤ length p.waiting →
       Answered a k s p (hears Selected a (Ok (Command (query Msv x place))) s p)
-  pub held : (a place : ℕ) (s : State) (p : Port) → Spanned s → readings_of s.force.averaging ≤ length p.waiting →
-      HeldExact s p (hears Broadcast a (Ok (Command (query Msv Absent place))) s p)
+  pub held : (a place : ℕ) (x : Argument) (s : State) (p : Port) → Spanned s → block_size x place ≡ Ok 1 → readings_of s.force.averaging ≤ length p.waiting →
+      HeldExact s p (hears Broadcast a (Ok (Command (query Msv x place))) s p)
+  pub weighed : (s : Settings) (xs : List Reading) → s.dead <ℤ s.full → Weighs s xs (weighed s (measurement s.averaging xs))

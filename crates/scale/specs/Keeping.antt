@@ -1,21 +1,23 @@
 -- What commands leave of a scale as it was: the laws of refusals, queries, restarting and the held value.
-use Rattle.std.specs.Prelude.{◌≡◌, ℕ, Bool, false, cond, ◌||◌, List, [], ◌∷◌, None, Some, Ok, Err, Result, ◌==◌, ◌⊎◌}
+use Rattle.std.specs.Prelude.{◌≡◌, ℕ, Bool, false, cond, ◌||◌, List, [], ◌∷◌, None, Some, Ok, Err, Result, Option, ◌==◌}
 use Rattle.fault.specs.declared.faults.Fault.{Fault}
 use Rattle.fault.specs.Causes.{described}
 use Rattle.bank.specs.Ports.{Port}
 use Rattle.command.specs.declared.orders.Argument.{Argument}
 use Rattle.command.specs.declared.orders.Argument.TheVariants.{Absent}
+use Rattle.command.specs.declared.orders.Form.{Form}
 use Rattle.command.specs.declared.orders.Form.TheVariants.{Entry, Query}
 use Rattle.command.specs.declared.orders.Heard.{Heard}
 use Rattle.command.specs.declared.orders.Heard.TheVariants.{Blank, Select, Command}
 use Rattle.command.specs.declared.orders.Mnemonic.{Mnemonic}
-use Rattle.command.specs.declared.orders.Mnemonic.TheVariants.{Res}
+use Rattle.command.specs.declared.orders.Mnemonic.TheVariants.{Cof, Icr, Nov, Rsn, Ldw, Lwt, Tar, Tas, Tav, Msv, Spw, Dpw, Tdd, Res, Esr}
 use Rattle.command.specs.declared.orders.Order.{Order}
 use Rattle.value.specs.Plain.{plain_text, line}
 use Rattle.value.specs.declared.plain.Plain.TheVariants.{Refused}
 use Rattle.scale.specs.declared.modes.Mode.{Mode}
 use Rattle.scale.specs.declared.modes.Mode.TheVariants.{Selected, Broadcast}
 use Rattle.scale.specs.declared.state.State.{State}
+use Rattle.scale.specs.declared.state.Ticket.{Ticket}
 use Rattle.scale.specs.Answers.{answer_bytes}
 use Rattle.scale.specs.Calibrating.{given_port}
 use Rattle.scale.specs.Hearing.{Outcome, in_mode, held_answer, obeys, hears}
@@ -34,7 +36,7 @@ opened_left f s = cond (numbered 9 f) false s.opened
 abbrev pub port_left : Fault → Order → State → Port → Port
 port_left f o s p = cond (numbered 12 f) (given_port s.force.averaging o.argument p) p
 
--- a refusal alters the fault memory only: settings in force and stored (tare and password among them), waiting dead load and held value stay.
+-- a refusal of what a scale hears alters the fault memory only: settings in force and stored (tare and password among them), waiting dead load and held value stay.
 -- The selected scale says `?`, and its fault is returned; in a broadcast neither.
 pub record OnlyRemembered (m : Mode) (f : Fault) (s : State) (x : Outcome) : Type 0 where
   pub force : x.state.force ≡ s.force
@@ -61,14 +63,79 @@ pub record RefusalsKeep : Type 0 where
   pub unread : (m : Mode) (a : ℕ) (f : Fault) (s : State) (p : Port) → UnreadKept m f s p (hears m a (Err f) s p)
   pub orders : (m : Mode) (a : ℕ) (o : Order) (s : State) (p : Port) (f : Fault) → (obeys m a o s p).reply ≡ Err f → OrderKept m f o s p (hears m a (Ok (Command o)) s p)
 
--- an order that is obeyed returns no fault and puts none into the memory: it leaves it, or clears it
-pub record NoneRemembered (s : State) (x : Outcome) : Type 0 where
-  pub fault : x.fault ≡ None
-  pub memory : (x.state.memory ≡ s.memory) ⊎ (x.state.memory ≡ None)
+abbrev pub asks_values : Result Heard Fault → Bool
+asks_values (Err f) = false
+asks_values (Ok Blank) = false
+asks_values (Ok (Select n)) = false
+asks_values (Ok (Command o)) = for_values (task_of o.form o.name)
 
-abbrev pub OnlyRefusalsRemembered : Type 0
-OnlyRefusalsRemembered =
-    (m : Mode) (a : ℕ) (o : Order) (s : State) (p : Port) (bytes : List ℕ) → (obeys m a o s p).reply ≡ Ok bytes → NoneRemembered s (hears m a (Ok (Command o)) s p)
+-- measured values are asked of all in a broadcast: this alone gives a scale a value to be handed out
+abbrev pub fills : Mode → Result Heard Fault → Bool
+fills Selected h = false
+fills Broadcast h = asks_values h
+
+-- what an obeyed order does to what a scale remembers beside its settings: most leave it, ESR? tells the fault and clears it, RES forgets all
+pub data Effect : Type 0 where
+  Leaves : Effect
+  Tells : Effect
+  Forgets : Effect
+
+abbrev pub entry_effect : Mnemonic → Effect
+entry_effect Cof = Leaves
+entry_effect Icr = Leaves
+entry_effect Nov = Leaves
+entry_effect Rsn = Leaves
+entry_effect Ldw = Leaves
+entry_effect Lwt = Leaves
+entry_effect Tar = Leaves
+entry_effect Tas = Leaves
+entry_effect Tav = Leaves
+entry_effect Msv = Leaves
+entry_effect Spw = Leaves
+entry_effect Dpw = Leaves
+entry_effect Tdd = Leaves
+entry_effect Res = Forgets
+entry_effect Esr = Leaves
+
+abbrev pub query_effect : Mnemonic → Effect
+query_effect Cof = Leaves
+query_effect Icr = Leaves
+query_effect Nov = Leaves
+query_effect Rsn = Leaves
+query_effect Ldw = Leaves
+query_effect Lwt = Leaves
+query_effect Tar = Leaves
+query_effect Tas = Leaves
+query_effect Tav = Leaves
+query_effect Msv = Leaves
+query_effect Spw = Leaves
+query_effect Dpw = Leaves
+query_effect Tdd = Leaves
+query_effect Res = Leaves
+query_effect Esr = Tells
+
+abbrev pub effect_of : Form → Mnemonic → Effect
+effect_of Entry n = entry_effect n
+effect_of Query n = query_effect n
+
+abbrev pub memory_left : Effect → State → Option Fault
+memory_left Leaves s = s.memory
+memory_left Tells s = None
+memory_left Forgets s = None
+
+abbrev pub held_left : Effect → State → Option Ticket
+held_left Leaves s = s.held
+held_left Tells s = s.held
+held_left Forgets s = None
+
+-- an order that is obeyed returns no fault and puts none into the memory; it leaves the held value, unless it fills it
+pub record ObeyedLeft (m : Mode) (o : Order) (s : State) (x : Outcome) : Type 0 where
+  pub fault : x.fault ≡ None
+  pub memory : x.state.memory ≡ memory_left (effect_of o.form o.name) s
+  pub held : fills m (Ok (Command o)) ≡ false → x.state.held ≡ held_left (effect_of o.form o.name) s
+
+abbrev pub ObeyedLeave : Type 0
+ObeyedLeave = (m : Mode) (a : ℕ) (o : Order) (s : State) (p : Port) (bytes : List ℕ) → (obeys m a o s p).reply ≡ Ok bytes → ObeyedLeft m o s (hears m a (Ok (Command o)) s p)
 
 -- a query, answered or refused, alters no setting in force or stored and no waiting dead load, and does not open or close
 pub record SettingsKept (s t : State) : Type 0 where
@@ -101,17 +168,6 @@ pub record Sent : Type 0 where
 unfoldable pub after_all : ℕ → List Sent → State → State
 after_all a [] s = s
 after_all a (x ∷ xs) s = after_all a xs (hears x.mode a x.heard s x.port).state
-
-abbrev pub asks_values : Result Heard Fault → Bool
-asks_values (Err f) = false
-asks_values (Ok Blank) = false
-asks_values (Ok (Select n)) = false
-asks_values (Ok (Command o)) = for_values (task_of o.form o.name)
-
--- measured values are asked of all in a broadcast: this alone gives a scale a value to be handed out
-abbrev pub fills : Mode → Result Heard Fault → Bool
-fills Selected h = false
-fills Broadcast h = asks_values h
 
 abbrev pub any_fills : List Sent → Bool
 any_fills [] = false

@@ -1,10 +1,10 @@
 -- The laws of one scale, in one place.
 use Rattle.scale.specs.Exact.{SpansStay, WeighingsExact}
-use Rattle.scale.specs.Keeping.{RefusalsKeep, OnlyRefusalsRemembered, QueriesKeep, RestartsRestore, HeldOnce}
+use Rattle.scale.specs.Keeping.{RefusalsKeep, ObeyedLeave, QueriesKeep, RestartsRestore, HeldOnce}
 
 pub record ScaleLaws : Type 0 where
   pub refusals : RefusalsKeep
-  pub remembered : OnlyRefusalsRemembered
+  pub obeyed : ObeyedLeave
   pub queries : QueriesKeep
   pub restarts : RestartsRestore
   pub once : HeldOnce

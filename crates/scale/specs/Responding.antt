@@ -34,6 +34,7 @@ entered_bytes Silent = []
 abbrev pub beside : Port → Said → Acted
 beside p x = acted x.state p x.reply
 
+-- what an order that asks for no values does; for values it is never used
 abbrev pub acts : Task → ℕ → Order → State → Port → Acted
 acts KeepDead a o s p = dead_loads a o s p
 acts SetFull a o s p = full_loads a o s p

@@ -52,7 +52,7 @@ impl<B: GaugeBank> Terminal<B> {
         self.scales[address.index()].hear(mode, address, heard, &mut self.bank, out)
     }
 
-    // A broadcast: every scale that is present hears it, and nobody answers; what one would say is written over. The select of all asks nothing of any scale.
+    // A broadcast: every scale that is present hears it, and nobody answers. The select of all asks nothing of any scale.
     fn broadcast(&mut self, heard: Result<Heard, Fault>) -> Obeyed
         ensures state { bus B.shows self.new ≡ hearing (λ x. listens everyone x (present (B.shows self.old.bank x))) (bus B.shows self.old) heard }
         ensures value { result ≡ returned silence }
