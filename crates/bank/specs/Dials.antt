@@ -3,11 +3,9 @@ use Rattle.std.specs.Prelude.{ℕ, ◌-◌, cond, ◌≤◌, ◌&&◌, List, len
 use Rattle.std.proofs.Common.{arith}
 use Rattle.std.proofs.lemmas.List.{length-replicate}
 use Rattle.fault.specs.declared.faults.Fault.{Fault}
-use Rattle.bank.specs.declared.factor.CornerFactor.{CornerFactor}
 use Rattle.bank.specs.declared.dial.Dial.{Dial}
-use Rattle.bank.specs.Ports.{Port, Sound, ranged}
+use Rattle.bank.specs.Ports.{Port, ranged}
 use Rattle.bank.specs.Gauges.{fitted}
-use Rattle.bank.specs.Fitting.{factor_at, fitted_sound}
 
 -- what a dial is set to: its digits, and how often they are still given
 pub record Setting : Type 0 where
@@ -48,6 +46,3 @@ dialled f s = fitted f (given s)
 
 pub given_short : (ds : List Dial) (p : ℕ) → length (given (setting_at ds) p) ≤ 65535
 given_short ds p = rw length-replicate (get_or ds p still).short
-
-pub dialled_sound : (fs : List (Option CornerFactor)) (ds : List Dial) (p : ℕ) → Sound (dialled (factor_at fs) (setting_at ds) p)
-dialled_sound fs ds p = fitted_sound fs (given (setting_at ds)) p (given_short ds p)

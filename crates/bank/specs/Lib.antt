@@ -4,6 +4,7 @@ pub mod Ports
 pub mod Gauges
 pub mod GaugeLaws
 pub mod Fitting
+pub mod Counted
 pub mod Dials
 pub mod Records
 pub mod RecordLaws

@@ -3,8 +3,6 @@ use Rattle.std.specs.Prelude.{◌≡◌, ℕ, ◌*◌, ◌≤◌, cond, ◌&&◌
 use Rattle.fault.specs.declared.faults.Fault.{Fault}
 use Rattle.fault.specs.declared.causes.Cause.TheVariants.{TooFewReadings, PortRange}
 use Rattle.fault.specs.Faults.{refusal}
-use Rattle.bank.specs.declared.counts.Counts.{Counts}
-use Rattle.bank.specs.declared.counts.Drawn.{Drawn}
 use Rattle.bank.specs.declared.reading.Reading.{Reading}
 
 -- a port: its gauge count, and the readings that wait, the first to be taken first
@@ -49,18 +47,10 @@ rest (x ∷ xs) = xs
 abbrev pub popped : Port → Port
 popped a = record { gauges = a.gauges; waiting = rest a.waiting }
 
--- a port's gauge count and how many readings wait there
-abbrev pub counts : Port → Counts
-counts a = record { gauges = a.gauges; waiting = length a.waiting }
-
 -- the first of a list, if there is one
 abbrev pub front : {A : Type 0} → List A → Option A
 front [] = None
 front (x ∷ xs) = Some x
-
--- a port's gauge count and its first reading
-abbrev pub drawing : Port → Drawn
-drawing a = record { gauges = a.gauges; reading = front a.waiting }
 
 -- what counting gauges, counting readings and taking answer
 abbrev pub gauges_at : (ℕ → Port) → ℕ → Result ℕ Fault

@@ -1,13 +1,10 @@
 -- No port of a recording has more records than the list, so that it keeps the limits of a port.
-use Rattle.std.specs.Prelude.{◌≡◌, ℕ, suc, ◌<◌, ◌≤◌, Bool, true, false, cond, List, [], ◌∷◌, length, get_or, drop, ℤ, Option, ◌==◌}
+use Rattle.std.specs.Prelude.{◌≡◌, ℕ, suc, ◌<◌, ◌≤◌, Bool, true, false, cond, List, [], ◌∷◌, length, get_or, drop, ℤ, ◌==◌}
 use Rattle.std.proofs.Common.{arith}
 use Rattle.std.proofs.lemmas.List.{length-drop}
-use Rattle.bank.specs.declared.factor.CornerFactor.{CornerFactor}
 use Rattle.bank.specs.declared.record.Record.{Record}
 use Rattle.bank.specs.declared.record.Cursor.{Cursor}
-use Rattle.bank.specs.Ports.{Sound}
-use Rattle.bank.specs.Fitting.{factor_at, fitted_sound}
-use Rattle.bank.specs.Records.{due, origin, due_at, recorded}
+use Rattle.bank.specs.Records.{due, origin, due_at}
 
 -- each cursor knows how many records of its port are due
 abbrev pub Tallied : List Record → List Cursor → Type 0
@@ -24,6 +21,3 @@ due_length p (r ∷ rs) = cond_length (r.port == p) r.digits (due p rs) (length 
 pub due_at_short : (rs : List Record) (cs : List Cursor) (p : ℕ) → length rs ≤ 65535 → length (due_at rs cs p) ≤ 65535
 due_at_short rs cs p h =
     let n = (get_or cs p origin).next in omega (arith, due_length p (drop n rs), length-drop n rs)
-
-pub recorded_sound : (rs : List Record) (fs : List (Option CornerFactor)) (cs : List Cursor) (p : ℕ) → length rs ≤ 65535 → Sound (recorded (factor_at fs) (due_at rs cs) p)
-recorded_sound rs fs cs p h = fitted_sound fs (due_at rs cs) p (due_at_short rs cs p h)

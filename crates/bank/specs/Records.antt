@@ -1,10 +1,8 @@
 -- What a list of records means.
-use Rattle.std.specs.Prelude.{◌≡◌, ℕ, ◌+◌, ◌-◌, cond, List, [], ◌∷◌, drop, ℤ, Some, None, Option, ◌==◌, slice_index_or}
+use Rattle.std.specs.Prelude.{◌≡◌, ℕ, ◌+◌, cond, List, [], ◌∷◌, drop, ℤ, Some, None, Option, ◌==◌, slice_index_or}
 use Rattle.bank.specs.declared.record.Record.{Record}
 use Rattle.bank.specs.declared.record.Cursor.{Cursor}
 use Rattle.bank.specs.declared.record.Found.{Found}
-use Rattle.bank.specs.Ports.{Port}
-use Rattle.bank.specs.Gauges.{fitted}
 
 -- the digits of the records of port p, in the order of the list
 abbrev pub due : ℕ → List Record → List ℤ
@@ -22,10 +20,6 @@ origin = record { next = 0; left = 0 }
 abbrev pub due_at : List Record → List Cursor → ℕ → List ℤ
 due_at rs cs p = due p (drop (slice_index_or cs p origin).next rs)
 
--- the records that are due wait, where a gauge is fitted
-abbrev pub recorded : (ℕ → Option ℕ) → (ℕ → List ℤ) → ℕ → Port
-recorded = fitted
-
 -- the first record of port p at place n or later, if there is one
 abbrev pub Nexts : ℕ → List Record → ℕ → Option Found → Type 0
 Nexts p rs n None = due p (drop n rs) ≡ []
@@ -34,7 +28,3 @@ Nexts p rs n (Some x) = due p (drop n rs) ≡ x.digits ∷ due p (drop x.after r
 -- a cursor after one record more of its port, at place i
 abbrev pub noted_at : Cursor → ℕ → Cursor
 noted_at c i = record { next = cond (c.left == 0) i c.next; left = c.left + 1 }
-
--- a cursor past a record that was found
-abbrev pub passed_at : Cursor → Found → Cursor
-passed_at c x = record { next = x.after; left = c.left - 1 }

@@ -2,6 +2,8 @@
 ghost use Rattle.std.specs.Prelude.{◌≡◌, ◌≤◌, if◌then◌else◌, Some, None, nat_le};
 ghost use Rattle.std.specs.Option.{option_map};
 
+use crate::addresses::Addresses;
+
 // An address, 0 to 31: a port of a bank, and the scale over it.
 #[derive(Clone, Copy)]
 pub struct Address {
@@ -11,6 +13,9 @@ pub struct Address {
 
 // The highest address.
 const LAST: u8 = 31;
+
+// How many addresses there are.
+const ADDRESSES: u8 = LAST + 1;
 
 impl Address {
     ghost use Rattle.bank.specs.Addresses.{number_of};
@@ -23,6 +28,17 @@ impl Address {
             return None;
         }
         Some(Address { number })
+    }
+
+    // All addresses, from 0 to 31, or by `rev` from 31 down to 0.
+    pub fn all() -> Addresses
+        ensures first { result.next ≡ 0 }
+        ensures end { result.end ≡ 32 }
+    {
+        Addresses {
+            next: 0,
+            end: ADDRESSES,
+        }
     }
 
     // The address as an index.

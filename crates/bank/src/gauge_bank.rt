@@ -2,9 +2,9 @@
 ghost use Rattle.std.specs.Prelude.{◌≡◌, ℕ, Ok};
 ghost use Rattle.bank.specs.Addresses.{number_of};
 ghost use Rattle.bank.specs.Fitting.{mapped_ok};
-ghost use Rattle.bank.specs.Ports.{Port, Sound, ranged, gauges_at, waiting_at, counts, first_at, drawing, rest_at};
+ghost use Rattle.bank.specs.Ports.{Port, Sound, ranged, gauges_at, waiting_at, first_at, rest_at};
 
-use crate::{Address, Counts, Drawn, Reading};
+use crate::{Address, Reading};
 use fault::{Cause, Fault};
 
 // The address of a port, or the refusal of one above 31.
@@ -14,7 +14,7 @@ pub fn checked_port(port: u8) -> Result<Address, Fault>
     Address::new(port).ok_or(Cause::PortRange.at(port as usize))
 }
 
-// A bank of gauges at ports 0 to 31. It gives the first three calls; the other two follow from them, and a bank on a bank gives them in one walk. It means a gauge count and a list of waiting readings for each port, within the limits of `Sound`.
+// A bank of gauges at ports 0 to 31. It means a gauge count and a list of waiting readings for each port, within the limits of `Sound`.
 pub trait GaugeBank {
     ghost shows: { Self → ℕ → Port };
 
@@ -32,23 +32,4 @@ pub trait GaugeBank {
     fn take(&mut self, port: u8) -> Result<Reading, Fault>
         ensures answer { result ≡ first_at (shows self.old) port }
         ensures after { shows self.new ≡ rest_at (shows self.old) port };
-
-    // Both counts of a port in one call.
-    fn tally(&self, port: Address) -> Counts
-        ensures { result ≡ counts (shows self.now port.number) }
-    {
-        let gauges = self.gauges(port.number).map_or(0, u16::from);
-        let waiting = self.waiting(port.number).unwrap_or(0);
-        Counts { gauges, waiting }
-    }
-
-    // Takes the first reading of a port, if one waits, and tells its gauge count: one call for a port that was searched before.
-    fn draw(&mut self, port: Address) -> Drawn
-        ensures answer { result ≡ drawing (shows self.old port.number) }
-        ensures after { shows self.new ≡ rest_at (shows self.old) port.number }
-    {
-        let gauges = self.gauges(port.number).map_or(0, u16::from);
-        let reading = self.take(port.number).ok();
-        Drawn { gauges, reading }
-    }
 }

@@ -1,11 +1,11 @@
 // Gauges whose digits come from a source.
 ghost use Rattle.std.specs.Prelude.{◌≡◌, ◌≤◌, ℕ, List, ℤ, length};
 ghost use Rattle.bank.specs.Gauges.{fits, refitted, fit_at, fitted, due_after};
-ghost use Rattle.bank.specs.Ports.{front, less_at, first_at, rest_at, drawing};
+ghost use Rattle.bank.specs.Ports.{front, less_at, first_at, rest_at};
 ghost use Rattle.bank.specs.Fitting.{factor_at, fitted_sound};
 
 use crate::fitting::Fitting;
-use crate::{Address, Counts, Drawn, GaugeBank, Reading, checked_port};
+use crate::{Address, GaugeBank, Reading, checked_port};
 use fault::{Cause, Fault};
 
 // Where the digits of gauges come from: at each port a list of digits waits.
@@ -25,7 +25,7 @@ pub trait Source {
 }
 
 // A bank of gauges over a source of digits.
-// Kept: (d) a table of factors here and one of digits in the source, by the same ports: the factors are any bank's, the digits are the source's own.
+// A table of factors here and one of digits in the source, by the same ports: the factors are those of any bank, the digits are the source's own.
 #[derive(Drop)]
 pub struct Gauges<S> {
     fitting: Fitting,
@@ -84,36 +84,5 @@ impl<S: Source> GaugeBank for Gauges<S> {
         let factor = self.fitting.at(place).ok_or(empty)?;
         let digits = self.source.next(place).ok_or(empty)?;
         Ok(factor.reading(digits))
-    }
-
-    fn tally(&self, port: Address) -> Counts {
-        match self.fitting.at(port) {
-            None => Counts {
-                gauges: 0,
-                waiting: 0,
-            },
-            Some(_) => Counts {
-                gauges: 1,
-                waiting: self.source.left(port),
-            },
-        }
-    }
-
-    fn draw(&mut self, port: Address) -> Drawn
-        ensures answer { result ≡ drawing (fitted (factor_at self.old.fitting.factors) (S.Source.due self.old.source) port.number) }
-        ensures after { fitted (factor_at self.new.fitting.factors) (S.Source.due self.new.source) ≡ rest_at (fitted (factor_at self.old.fitting.factors) (S.Source.due self.old.source)) port.number }
-        ensures digits { S.Source.due self.new.source ≡ due_after (factor_at self.old.fitting.factors) (S.Source.due self.old.source) port.number }
-        ensures fitting { self.new.fitting ≡ self.old.fitting }
-    {
-        match self.fitting.at(port) {
-            None => Drawn {
-                gauges: 0,
-                reading: None,
-            },
-            Some(factor) => Drawn {
-                gauges: 1,
-                reading: self.source.next(port).map(|digits| factor.reading(digits)),
-            },
-        }
     }
 }

@@ -1,8 +1,9 @@
-// Banks of load gauges: what a bank means, and two that hold gauges of their own.
+// Banks of load gauges: what a bank means, two that hold gauges of their own, and one that keeps the counts of any other.
 #![tactic(auto)]
 
 mod address;
-mod counts;
+mod addresses;
+mod counted;
 mod dial;
 mod dials;
 mod factor;
@@ -15,7 +16,8 @@ mod recording;
 mod scan;
 
 pub use address::Address;
-pub use counts::{Counts, Drawn};
+pub use addresses::Addresses;
+pub use counted::CountedBank;
 pub use dials::{DialTable, Dials};
 pub use gauge_bank::{GaugeBank, checked_port};
 pub use gauges::{Gauges, Source};
