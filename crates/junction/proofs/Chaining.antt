@@ -9,7 +9,7 @@ use Rattle.bank.proofs.Lists.{get_d_same}
 use Rattle.std.proofs.Math.ListN.{get_or-map}
 use Rattle.std.proofs.lemmas.List.{map-set}
 use Rattle.junction.specs.Feeding.{FeedMap, feeds_to, fed, moved, next_from}
-use Rattle.junction.specs.Chains.{mapped, link, Chained}
+use Rattle.junction.specs.Chains.{mapped, link}
 
 -- the chains, as far as the ports from i on make them
 pub record ChainedFrom (f : ℕ → ℕ) (first next : List (Option Address)) (i : ℕ) : Type 0 where
@@ -22,9 +22,6 @@ chained_none f = record {
   firsts = λ p h. ap (option_map number_of) (get_d_same 32 p None);
   nexts = λ q l h. absurd (omega arith);
 }
-
-pub chained_all : (f : ℕ → ℕ) (first next : List (Option Address)) → ChainedFrom f first next 0 → Chained f first next
-chained_all f first next h = record { firsts = h.firsts; nexts = λ q l. h.nexts q (omega arith) l }
 
 -- the port i as well, which feeds a
 module _ (f : ℕ → ℕ) (first next : List (Option Address)) (i a : ℕ) (x : Option Address) (y : Address) (long : length first ≡ 32) (wide : length next ≡ 32) (low : i < 32) (inside : a < 32) (feeds : f i ≡ a)

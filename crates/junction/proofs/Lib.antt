@@ -6,6 +6,8 @@ mod Joining
 mod Regroup
 mod Turns
 mod Once
+mod Counted
+mod Drained
 mod Walks
 mod Chaining
 pub mod Rejoined

@@ -1,14 +1,16 @@
 -- What one more feeding port adds: to the counts, to the search for a dry port.
 use Rattle.std.proofs.Common.{◌≡◌, ℕ, zero, suc, ◌+◌, ◌-◌, ◌*◌, ◌<◌, ◌≤◌, Bool, true, false, cond, ◌≢◌, length, Some, None, sym, ap, ◌∙◌, subst, ⊎_elim, add-one, arith}
+use Rattle.std.proofs.lemmas.Bool.Decides.{nat_tests}
+use Rattle.std.proofs.lemmas.Grind.{common_steps}
 use Rattle.std.proofs.lemmas.Bool.{and_parts, cases_Bool, cases_eq, ltb-true, eqb-true}
-use Rattle.bank.specs.declared.counts.Counts.{Counts}
-use Rattle.bank.specs.Ports.{Port, Sound, counts}
+use Rattle.bank.specs.Ports.{Port, Sound}
 use Rattle.junction.specs.Gather.{join, part, gather, shorter, dry, dry_from}
 use Rattle.junction.specs.Limits.{length_lines, part_few}
-use Rattle.junction.specs.Counting.{tallied, dried}
+use Rattle.junction.specs.declared.as_one.Tally.{Tally}
+use Rattle.junction.specs.Counting.{tally_of, joined, dried}
 
-counts_join : (a b : Port) → tallied (counts a) (counts b) ≡ counts (join a b)
-counts_join a b = λ i. record { gauges = a.gauges + b.gauges; waiting = sym (length_lines a.gauges b.gauges a.waiting b.waiting) i }
+tally_join : (a b : Port) → joined (tally_of a) (tally_of b) ≡ tally_of (join a b)
+tally_join a b = λ i. record { gauges = a.gauges + b.gauges; waiting = sym (length_lines a.gauges b.gauges a.waiting b.waiting) i }
 
 -- ---- dry ports
 -- a port has a gauge and no reading
@@ -19,8 +21,23 @@ dry_is : (a : Port) → dry a ≡ true → Dry a
 dry_is a e = let t = and_parts _ _ e in (ltb-true _ _ t.0, eqb-true _ _ t.1)
 
 -- counted, a port is dry or not
-pub told_dry : (a : Port) (c : Counts) (r t : Bool) → c ≡ counts a → r ≡ dried c → r ≡ t → dry a ≡ t
+pub told_dry : (a : Port) (c : Tally) (r t : Bool) → c ≡ tally_of a → r ≡ dried c → r ≡ t → dry a ≡ t
 told_dry a c r t e d k = sym (ap dried e) ∙ sym d ∙ k
+
+-- a port with a gauge has a reading
+abbrev pub Wet : Port → Type 0
+Wet a = 0 < a.gauges → 0 < length a.waiting
+
+wet_is : (a : Port) → dry a ≡ false → Wet a
+wet_is a e h = grind (arith, common_steps, nat_tests)
+
+wet_shorter : (m n a b : ℕ) → (0 < m → 0 < a) → (0 < n → 0 < b) → 0 < m + n → 0 < shorter m a n b
+wet_shorter zero n a b h k e = k (omega arith)
+wet_shorter (suc m) zero a b h k e = h (omega arith)
+wet_shorter (suc m) (suc n) a b h k e = let x = h (omega arith) in let y = k (omega arith) in omega arith
+
+wet_join : (a b : Port) → Wet a → Wet b → Wet (join a b)
+wet_join a b h k e = rw (length_lines a.gauges b.gauges a.waiting b.waiting) (wet_shorter a.gauges b.gauges _ _ h k e)
 
 dry_first : (m a n b : ℕ) → 0 < m → a ≡ 0 → shorter m a n b ≡ 0
 dry_first m a n b h e = grind arith
@@ -40,8 +57,8 @@ module _ (f : ℕ → ℕ) (m : ℕ → Port) (p : ℕ) where
   gather_few ok zero = omega arith
   gather_few ok (suc n) = omega (arith, gather_few ok n, part_few f m p ok n)
 
-  pub counts_next : (n : ℕ) (s c : Counts) → s ≡ counts (gather f m p n) → c ≡ counts (part f m p n) → tallied s c ≡ counts (gather f m p (n + 1))
-  counts_next n s c es ec = (λ i. tallied (es i) (ec i)) ∙ counts_join (gather f m p n) (part f m p n) ∙ sym (ap counts (gather_next n))
+  pub tally_next : (n : ℕ) (s c : Tally) → s ≡ tally_of (gather f m p n) → c ≡ tally_of (part f m p n) → joined s c ≡ tally_of (gather f m p (n + 1))
+  tally_next n s c es ec = (λ i. joined (es i) (ec i)) ∙ tally_join (gather f m p n) (part f m p n) ∙ sym (ap tally_of (gather_next n))
 
   -- ---- one turn of the search
   pub dry_turn : (q : ℕ) → q ≤ 31 → dry_from f m p q (32 - q) ≡ cond (dry (part f m p q)) (Some q) (dry_from f m p (q + 1) (32 - (q + 1)))
@@ -83,3 +100,22 @@ module _ (f : ℕ → ℕ) (m : ℕ → Port) (p : ℕ) where
       (λ (d : dry (part f m p q) ≡ true). dry_gather l q (omega arith) (dry_is (part f m p q) d))
       (λ (d : dry (part f m p q) ≡ false). some_dry n (suc q) l x (omega arith) (sym (ap (λ (b : Bool). cond b (Some q) (dry_from f m p (suc q) n)) d) ∙ e))
       (cases_Bool (dry (part f m p q)))
+
+  pub none_dry : (n q : ℕ) → dry_from f m p q n ≡ None → (k : ℕ) → q ≤ k → k < q + n → Wet (part f m p k)
+  unfolding dry_from
+  none_dry zero q e k h l = absurd (omega arith)
+  none_dry (suc n) q e k h l =
+      ⊎_elim
+      (λ (d : dry (part f m p q) ≡ true). let s : Some q ≡ None = sym (ap (λ (b : Bool). cond b (Some q) (dry_from f m p (suc q) n)) d) ∙ e in let z : ◌≡◌ {A = ℕ} 0 1 = cc in absurd (omega arith))
+      (λ (d : dry (part f m p q) ≡ false).
+      let r : dry_from f m p (suc q) n ≡ None = sym (ap (λ (b : Bool). cond b (Some q) (dry_from f m p (suc q) n)) d) ∙ e in
+      ⊎_elim
+      (λ (x : k ≡ q). subst (λ (j : ℕ). Wet (part f m p j)) (sym x) (wet_is (part f m p q) d))
+      (λ (x : k ≢ q). none_dry n (suc q) r k (omega arith) (omega arith))
+      (cases_eq k q))
+      (cases_Bool (dry (part f m p q)))
+
+  pub wet_gather : (n : ℕ) → ((q : ℕ) → q < n → Wet (part f m p q)) → Wet (gather f m p n)
+  unfolding gather
+  wet_gather zero h = λ e. absurd (omega arith)
+  wet_gather (suc n) h = wet_join (gather f m p n) (part f m p n) (wet_gather n (λ q k. h q (omega arith))) (h n (omega arith))

@@ -1,23 +1,17 @@
 -- What taking at a port of a box answers and leaves.
-use Rattle.std.proofs.Common.{◌≡◌, ℕ, zero, suc, ◌+◌, ◌-◌, ◌<◌, ◌≤◌, Bool, true, false, cond, eqb, leb, ◌≢◌, List, [], ◌∷◌, length, get_or, set, Some, None, Err, Option, sym, refl, ap, ◌∙◌, subst, ⊎_elim, arith}
-use Rattle.std.specs.Option.{is_some}
-use Rattle.std.proofs.lemmas.Bool.{cases_eq, false≢true}
+use Rattle.std.proofs.Common.{◌≡◌, ℕ, zero, suc, ◌+◌, ◌<◌, ◌≤◌, Bool, true, false, cond, ◌&&◌, eqb, ltb, leb, ◌≢◌, List, [], ◌∷◌, length, Some, None, Ok, Option, sym, refl, ap, ◌∙◌, subst, ⊎_elim, arith}
+use Rattle.std.specs.Option.{is_none}
+use Rattle.std.proofs.lemmas.Bool.{cases_eq, le-leb, false≢true}
+use Rattle.std.proofs.Math.Bool.{and-false, and-true}
 use Rattle.std.proofs.lemmas.Bool.Decides.{nat_tests}
-use Rattle.fault.specs.declared.faults.Fault.{Fault}
-use Rattle.fault.specs.declared.causes.Cause.TheVariants.{TooFewReadings}
-use Rattle.fault.specs.Faults.{refusal}
-use Rattle.std.proofs.lemmas.List.{get_or-set_other, get_or-set_same}
-use Rattle.bank.specs.declared.counts.Counts.{Counts}
 use Rattle.bank.specs.declared.reading.Reading.{Reading}
-use Rattle.bank.specs.Ports.{Port, Sound, none, counts, rest, popped, first_at, rest_at}
-use Rattle.bank.proofs.Empty.{empty_first}
+use Rattle.bank.specs.Ports.{Port, Sound, none, rest, popped, first, first_at, rest_at}
 use Rattle.junction.specs.declared.feeds.Feeds.{Feeds}
 use Rattle.junction.specs.Feeding.{fed}
-use Rattle.junction.specs.Gather.{paired, lines, join, part, gather, capped, boxed, dry_from, drawn}
-use Rattle.junction.specs.Counting.{one_fewer}
-use Rattle.junction.specs.Tallies.{CountsOf}
+use Rattle.junction.specs.Gather.{paired, lines, join, part, gather, capped, boxed, gives, dry_from, drawn}
 use Rattle.junction.specs.Limits.{boxed_sound}
-use Rattle.junction.proofs.Parts.{some_dry}
+use Rattle.junction.proofs.Parts.{some_dry, none_dry, wet_gather}
+use Rattle.junction.proofs.Drawing.{top}
 
 -- ---- a gathered port without its first reading
 rest_paired : (xs ys : List Reading) → rest (paired xs ys) ≡ paired (rest xs) (rest ys)
@@ -67,10 +61,10 @@ module _ (f : ℕ → ℕ) (m k : ℕ → Port) (p : ℕ) (was : k ≡ drawn f m
   gather_kept r ne zero h = refl
   gather_kept r ne (suc n) h = λ i. join (gather_kept r ne n (omega arith) i) (part_kept r ne n (omega arith) i)
 
-here : (m : ℕ → Port) (p : ℕ) → p ≤ 31 → rest_at m p p ≡ popped (m p)
+pub here : (m : ℕ → Port) (p : ℕ) → p ≤ 31 → rest_at m p p ≡ popped (m p)
 here m p h = grind (arith, nat_tests)
 
-elsewhere : (m : ℕ → Port) (p r : ℕ) → r ≢ p → rest_at m p r ≡ m r
+pub elsewhere : (m : ℕ → Port) (p r : ℕ) → r ≢ p → rest_at m p r ≡ m r
 elsewhere m p r ne = grind (arith, nat_tests)
 
 -- one reading is gone at port p, and nothing elsewhere
@@ -81,35 +75,55 @@ box_drawn fs m k p h was = λ i. λ r.
     (λ (e : r ≢ p). ap capped (gather_kept (fed fs) m k p was r e 32 (omega arith)) ∙ sym (elsewhere (boxed fs m) p r e))
     (cases_eq r p) i
 
--- the counts of the ports, once a reading is taken at port p: one fewer there
-fewer_popped : (a : Port) → one_fewer (counts a) ≡ counts (popped a)
-fewer_popped a = λ i. record { gauges = a.gauges; waiting = length_rest a.waiting i } where
-  length_rest : (xs : List Reading) → length xs - 1 ≡ length (rest xs)
-  length_rest [] = refl
-  length_rest (x ∷ xs) = omega arith
-
-pub counts_after : (before after : ℕ → Port) (all : List Counts) (j k p : ℕ) (c : Counts) → length all ≡ 32 → p ≤ 31 → after ≡ rest_at before p → j ≡ p → k ≡ p → c ≡ one_fewer (get_or all j (counts none)) → CountsOf before all → CountsOf after (set all k c)
-counts_after before after all j k p c long low was is there fewer old q h =
-    ap (λ (x : ℕ). get_or (set all x c) q (counts none)) there
-    ∙ ⊎_elim
-    (λ (e : q ≡ p). subst (λ (x : ℕ). get_or (set all p c) x (counts none) ≡ counts (rest_at before p x)) (sym e)
-    (get_or-set_same all p c (counts none) (omega arith) ∙ fewer ∙ ap (λ (x : ℕ). one_fewer (get_or all x (counts none))) is ∙ ap one_fewer (old p (omega arith)) ∙ fewer_popped (before p) ∙ ap counts (sym (here before p low))))
-    (λ (e : q ≢ p). get_or-set_other all p q c (counts none) e ∙ old q h ∙ ap counts (sym (elsewhere before p q e)))
-    (cases_eq q p)
-    ∙ (λ i. counts (sym was i q))
-
 -- ---- what is answered
 module _ (fs : Feeds) (m : ℕ → Port) (p : ℕ) where
-  pub bare_waits : ((q : ℕ) → Sound (m q)) → (boxed fs m p).gauges ≡ 0 → length (boxed fs m p).waiting ≡ 0
-  bare_waits ok e = ap length ((boxed_sound fs m ok p).bare e)
+  -- the search came to a dry port
+  pub dry_gives : (x : ℕ) → dry_from (fed fs) m p 0 32 ≡ Some x → false ≡ gives fs m p
+  dry_gives x e = sym (ap (λ (o : Option ℕ). ltb 0 (boxed fs m p).gauges && is_none o) e ∙ and-false (ltb 0 (boxed fs m p).gauges))
 
+  -- it came to none, and counted n gauges
+  module _ (n : ℕ) (none_dry : dry_from (fed fs) m p 0 32 ≡ None) (counted : n ≡ (gather (fed fs) m p 32).gauges) where
+    count_gives : gives fs m p ≡ ltb 0 (capped (gather (fed fs) m p 32)).gauges
+    count_gives = ap (λ (o : Option ℕ). ltb 0 (boxed fs m p).gauges && is_none o) none_dry ∙ and-true (ltb 0 (boxed fs m p).gauges)
+
+    pub some_gives : 0 < n → leb n 8 ≡ gives fs m p
+    some_gives h = few (gather (fed fs) m p 32) counted ∙ sym count_gives where
+      few : (a : Port) → n ≡ a.gauges → leb n 8 ≡ ltb 0 (capped a).gauges
+      few a e = grind (arith, nat_tests)
+
+  -- ---- it gives a reading, or not
   cond_empty : (b : Bool) (x : Port) → length x.waiting ≡ 0 → length (cond b x none).waiting ≡ 0
   cond_empty true x e = e
   cond_empty false x e = refl
 
-  pub dry_waits : (found : Option ℕ) → found ≡ dry_from (fed fs) m p 0 32 → is_some found ≡ true → length (boxed fs m p).waiting ≡ 0
-  dry_waits (Some x) e t = cond_empty (leb (gather (fed fs) m p 32).gauges 8) (gather (fed fs) m p 32) (some_dry (fed fs) m p 32 0 32 x (omega arith) (sym e)).1
-  dry_waits None e t = absurd (false≢true t)
+  empty_by : (g : ℕ) (found : Option ℕ) → (g ≡ 0 → length (boxed fs m p).waiting ≡ 0) → found ≡ dry_from (fed fs) m p 0 32 → (ltb 0 g && is_none found) ≡ false → length (boxed fs m p).waiting ≡ 0
+  empty_by zero found h d e = h refl
+  empty_by (suc g) (Some x) h d e = cond_empty (leb (gather (fed fs) m p 32).gauges 8) (gather (fed fs) m p 32) (some_dry (fed fs) m p 32 0 32 x (omega arith) (sym d)).1
+  empty_by (suc g) None h d e = h (grind (arith, nat_tests))
 
-  pub refused_first : (x : Fault) → p ≤ 31 → x ≡ refusal TooFewReadings p → length (boxed fs m p).waiting ≡ 0 → Err x ≡ first_at (boxed fs m) p
-  refused_first x h is e = ap Err is ∙ empty_first (boxed fs m) p e h
+  pub none_waits : ((q : ℕ) → Sound (m q)) → gives fs m p ≡ false → length (boxed fs m p).waiting ≡ 0
+  none_waits ok e = empty_by (boxed fs m p).gauges _ (λ d. ap length ((boxed_sound fs m ok p).bare d)) refl e
+
+  -- a port that gives a reading
+  module _ (so : gives fs m p ≡ true) where
+    none_found : (g : ℕ) (found : Option ℕ) → (ltb 0 g && is_none found) ≡ true → (0 < g) × (found ≡ None)
+    none_found zero found e = absurd (false≢true e)
+    none_found (suc g) (Some x) e = absurd (false≢true (sym (and-false (ltb 0 (suc g))) ∙ e))
+    none_found (suc g) None e = (omega arith, refl)
+
+    pub finds_none : dry_from (fed fs) m p 0 32 ≡ None
+    finds_none = (none_found (boxed fs m p).gauges _ so).1
+
+    few : (a : Port) → 0 < (capped a).gauges → (capped a ≡ a) × (0 < a.gauges)
+    few a h = grind (arith, nat_tests)
+
+    top_first : (xs : List Reading) → 0 < length xs → Ok (top xs) ≡ first p xs
+    top_first [] h = absurd (omega arith)
+    top_first (x ∷ xs) h = refl
+
+    pub given_first : (r : Reading) → p ≤ 31 → r ≡ top (gather (fed fs) m p 32).waiting → Ok r ≡ first_at (boxed fs m) p
+    given_first r low e =
+        let a = le-leb p 31 low in
+        let t = few (gather (fed fs) m p 32) (none_found (boxed fs m p).gauges _ so).0 in
+        let w = wet_gather (fed fs) m p 32 (λ q l. none_dry (fed fs) m p 32 0 finds_none q (omega arith) (omega arith)) t.1 in
+        ap Ok e ∙ top_first (gather (fed fs) m p 32).waiting w ∙ ap (λ (x : Port). first p x.waiting) (sym t.0) ∙ rw a refl

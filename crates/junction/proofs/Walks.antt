@@ -4,15 +4,15 @@ use Rattle.std.proofs.lemmas.Bool.{eq-eqb, ne_eqb, cases_eq}
 use Rattle.std.proofs.lemmas.Bool.Decides.{nat_tests}
 use Rattle.std.specs.Option.{option_map}
 use Rattle.bank.specs.declared.address.Address.{Address}
-use Rattle.bank.specs.declared.counts.Counts.{Counts}
 use Rattle.bank.specs.Addresses.{number_of}
-use Rattle.bank.specs.Ports.{Port, Sound, none, counts}
+use Rattle.bank.specs.Ports.{Port, Sound, none}
 use Rattle.junction.specs.Feeding.{next_from}
 use Rattle.junction.specs.Gather.{join, part, gather, dry, dry_from, drawn}
-use Rattle.junction.specs.Counting.{tallied}
+use Rattle.junction.specs.declared.as_one.Tally.{Tally}
+use Rattle.junction.specs.Counting.{tally_of, joined}
 use Rattle.junction.specs.Limits.{gather_fair}
 use Rattle.junction.proofs.Joining.{join_none}
-use Rattle.junction.proofs.Parts.{counts_next}
+use Rattle.junction.proofs.Parts.{gather_next, tally_next, dry_ended}
 
 -- where a walk stands: at the port that it came to, or past the last
 abbrev pub stop : Option ℕ → ℕ
@@ -140,5 +140,17 @@ module _ (f : ℕ → ℕ) (p q : ℕ) (low : q ≤ 31) (here : f q ≡ p) (o : 
   pub next_drawn : (m : ℕ → Port) → drawn f m p (stop o) ≡ drawn f m p (q + 1)
   next_drawn m = ap (λ (x : Option ℕ). drawn f m p (stop x)) so ∙ (λ i. λ k. drawn_stop f p m (31 - q) (q + 1) (omega arith) k i)
 
-  pub next_counts : (m : ℕ → Port) → ((k : ℕ) → Sound (m k)) → (s c : Counts) → s ≡ counts (gather f m p q) → c ≡ counts (m q) → tallied s c ≡ counts (gather f m p (stop o))
-  next_counts m ok s c es ec = counts_next f m p q s c es (ec ∙ ap counts (sym (part_here f p m q here))) ∙ ap counts (sym (next_gather m ok))
+  pub next_tally : (m : ℕ → Port) → ((k : ℕ) → Sound (m k)) → (s c : Tally) → s ≡ tally_of (gather f m p q) → c ≡ tally_of (m q) → joined s c ≡ tally_of (gather f m p (stop o))
+  next_tally m ok s c es ec = tally_next f m p q s c es (ec ∙ ap tally_of (sym (part_here f p m q here))) ∙ ap tally_of (sym (next_gather m ok))
+
+  pub next_gauges : (m : ℕ → Port) → ((k : ℕ) → Sound (m k)) → (s c : ℕ) → s ≡ (gather f m p q).gauges → c ≡ (m q).gauges → s + c ≡ (gather f m p (stop o)).gauges
+  next_gauges m ok s c es ec =
+      (λ i. es i + (ec ∙ ap (λ (a : Port). a.gauges) (sym (part_here f p m q here))) i)
+      ∙ ap (λ (a : Port). a.gauges) (sym (gather_next f m p q) ∙ sym (next_gather m ok))
+
+-- ---- the end of a walk that counts and searches
+pub search_ended : (f : ℕ → ℕ) (m : ℕ → Port) (p n : ℕ) (x : Option Address) → x ≡ None → n ≡ (gather f m p (stop (option_map number_of x))).gauges → dry_from f m p (stop (option_map number_of x)) (32 - stop (option_map number_of x)) ≡ dry_from f m p 0 32 → (n ≡ (gather f m p 32).gauges) × (dry_from f m p 0 32 ≡ None)
+search_ended f m p n x e h k = (
+  h ∙ ap (λ (y : Option Address). (gather f m p (stop (option_map number_of y))).gauges) e,
+  sym k ∙ ap (λ (y : Option Address). dry_from f m p (stop (option_map number_of y)) (32 - stop (option_map number_of y))) e ∙ dry_ended f m p 32 (omega arith),
+)

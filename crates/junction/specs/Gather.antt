@@ -1,8 +1,9 @@
 -- Ports gathered into one, and what a box on a bank means.
-use Rattle.std.specs.Prelude.{ℕ, zero, suc, ◌+◌, ◌*◌, ◌≤◌, min, Bool, cond, ◌&&◌, List, [], ◌∷◌, length, ◌+ℤ◌, Some, None, Option, ◌==◌, nat_le, nat_lt, unsigned_abs}
+use Rattle.std.specs.Prelude.{ℕ, zero, suc, ◌+◌, min, Bool, cond, ◌&&◌, List, [], ◌∷◌, length, ◌+ℤ◌, Some, None, Option, ◌==◌, nat_le, nat_lt}
+use Rattle.std.specs.Option.{is_none}
 use Rattle.bank.specs.declared.reading.Reading.{Reading}
 use Rattle.bank.specs.Readings.{either}
-use Rattle.bank.specs.Ports.{Port, none, most, popped}
+use Rattle.bank.specs.Ports.{Port, none, popped}
 use Rattle.junction.specs.declared.feeds.Feeds.{Feeds}
 use Rattle.junction.specs.Feeding.{fed}
 
@@ -59,29 +60,18 @@ unfoldable pub dry_from : (ℕ → ℕ) → (ℕ → Port) → ℕ → ℕ → �
 dry_from f m p q zero = None
 dry_from f m p q (suc n) = cond (dry (part f m p q)) (Some q) (dry_from f m p (suc q) n)
 
--- two readings as one, where a missing one counts for nothing
-abbrev pub merged : Option Reading → Option Reading → Option Reading
-merged None y = y
-merged (Some x) None = Some x
-merged (Some x) (Some y) = Some (both x y)
-
--- a reading, if there is one, whose load is no larger than that of eight gauges
-abbrev pub Light : Option Reading → Type 0
-Light None = Unit {0}
-Light (Some x) = unsigned_abs x.load ≤ 8 * most
+-- whether the port p of a box gives a reading: it has a gauge, and no port that feeds it is dry
+abbrev pub gives : Feeds → (ℕ → Port) → ℕ → Bool
+gives fs m p = nat_lt 0 (boxed fs m p).gauges && is_none (dry_from (fed fs) m p 0 32)
 
 -- m, with the first reading taken from each port below n that feeds the port p
 abbrev pub drawn : (ℕ → ℕ) → (ℕ → Port) → ℕ → ℕ → ℕ → Port
 drawn f m p n k = cond (nat_lt k n && f k == p) (popped (m k)) (m k)
 
--- the ports below after a reading is taken at the port p of a box: one is gone from each port that feeds p, unless p has no
--- gauge, or a port that feeds it has a gauge and no reading; then no port below is touched
-abbrev pub unless_dry : Option ℕ → (ℕ → Port) → (ℕ → Port) → ℕ → Port
-unless_dry (Some q) m k = m
-unless_dry None m k = k
-
+-- the ports below after a reading is taken at the port p of a box: one is gone from each port that feeds p, if p gives one;
+-- else no port below is touched
 abbrev pub left_below : Feeds → (ℕ → Port) → ℕ → ℕ → Port
-left_below fs m p = cond ((boxed fs m p).gauges == 0) m (unless_dry (dry_from (fed fs) m p 0 32) m (drawn (fed fs) m p 32))
+left_below fs m p = cond (gives fs m p) (drawn (fed fs) m p 32) m
 
 abbrev pub below_after : Feeds → (ℕ → Port) → ℕ → ℕ → Port
 below_after fs m p = cond (nat_le p 31) (left_below fs m p) m

@@ -35,3 +35,18 @@ refusal_count (Err x) = 1
 unfoldable pub refusals : (ℕ → Port) → Feeds → List Join → ℕ
 refusals m fs [] = 0
 refusals m fs (j ∷ js) = refusal_count (joining m fs j.below j.above) + refusals m (rejoined m fs j.below j.above) js
+
+-- two banks have the same gauge counts
+abbrev pub SameCounts : (ℕ → Port) → (ℕ → Port) → Type 0
+SameCounts m m' = (q : ℕ) → q < 32 → (m q).gauges ≡ (m' q).gauges
+
+-- joins over two banks do the same: each is answered alike, and so joins made one after another leave the same map and the
+-- same of them are refused
+pub record JoinAlike (m m' : ℕ → Port) : Type 0 where
+  pub answers : (fs : Feeds) (b a : ℕ) → joining m fs b a ≡ joining m' fs b a
+  pub maps : (fs : Feeds) (js : List Join) → after_joins m fs js ≡ after_joins m' fs js
+  pub refused : (fs : Feeds) (js : List Join) → refusals m fs js ≡ refusals m' fs js
+
+-- joins look at gauge counts alone, and at no reading
+abbrev pub CountsAlone : Type 0
+CountsAlone = (m m' : ℕ → Port) → SameCounts m m' → JoinAlike m m'

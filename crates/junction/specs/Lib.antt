@@ -2,7 +2,6 @@ pub mod Feeding
 pub mod Chains
 pub mod Gather
 pub mod Counting
-pub mod Tallies
 pub mod Limits
 pub mod Joins
 pub mod Piles

@@ -1,11 +1,12 @@
 -- Piles: boxes on boxes. What a port of a pile shows, and which gauges reach it.
-use Rattle.std.specs.Prelude.{◌≡◌, ℕ, zero, suc, ◌+◌, ◌<◌, ◌≤◌, min, cond, ◌&&◌, ◌⊎◌, List, [], ◌∷◌, length, Ok, ◌==◌, nat_lt, slice_index_or}
+use Rattle.std.specs.Prelude.{◌≡◌, ℕ, zero, suc, ◌+◌, ◌<◌, ◌≤◌, min, cond, ◌&&◌, ◌⊎◌, List, [], ◌∷◌, length, Ok, ◌==◌, nat_le, nat_lt, slice_index_or}
 use Rattle.bank.specs.declared.reading.Reading.{Reading}
-use Rattle.bank.specs.Ports.{Port, Sound, none}
+use Rattle.bank.specs.Ports.{Port, Sound, none, rest_at}
+use Rattle.junction.specs.declared.feeds.Feeds.{Feeds}
 use Rattle.junction.specs.declared.joins.Join.{Join}
 use Rattle.junction.specs.Feeding.{fed, own}
-use Rattle.junction.specs.Gather.{both, join, gather, boxed}
-use Rattle.junction.specs.Joins.{joining, after_joins}
+use Rattle.junction.specs.Gather.{both, join, gather, boxed, drawn}
+use Rattle.junction.specs.Joins.{joining, after_joins, SameCounts}
 
 -- a box on a bank that shows m: a new box, and joins made one after another, refused ones included
 abbrev pub box_on : (ℕ → Port) → List Join → ℕ → Port
@@ -20,6 +21,31 @@ pile m (js ∷ boxes) = pile (box_on m js) boxes
 abbrev pub reach : (ℕ → Port) → List (List Join) → ℕ → ℕ
 reach m [] q = q
 reach m (js ∷ boxes) q = reach (box_on m js) boxes (fed (after_joins m own js) q)
+
+-- the feeding maps of a pile's boxes, from the lowest up, as their joins make them over a bank that shows m
+abbrev pub maps : (ℕ → Port) → List (List Join) → List Feeds
+maps m [] = []
+maps m (js ∷ boxes) = after_joins m own js ∷ maps (box_on m js) boxes
+
+-- boxes with these feeding maps, from the lowest up, on a bank that shows m
+abbrev pub stood : (ℕ → Port) → List Feeds → ℕ → Port
+stood m [] = m
+stood m (fs ∷ boxes) = stood (boxed fs m) boxes
+
+-- a bank once a reading was taken at each of these ports, one after another
+abbrev pub after_takes : (ℕ → Port) → List ℕ → ℕ → Port
+after_takes m [] = m
+after_takes m (p ∷ ps) = after_takes (rest_at m p) ps
+
+-- the pile's bank after a reading is taken at the port p of the pile: one is gone from each of its ports that reach p, if one
+-- waits at p
+abbrev pub left_in : (ℕ → Port) → List (List Join) → ℕ → ℕ → Port
+left_in m boxes p = cond (nat_le p 31 && nat_lt 0 (length (pile m boxes p).waiting)) (drawn (reach m boxes) m p 32) m
+
+-- and after one is taken at each of these ports of the pile
+abbrev pub drained : (ℕ → Port) → List (List Join) → List ℕ → ℕ → Port
+drained m boxes [] = m
+drained m boxes (p ∷ ps) = drained (left_in m boxes p) boxes ps
 
 -- s, s + 1, .., n numbers in all
 abbrev pub from : ℕ → ℕ → List ℕ
@@ -93,3 +119,17 @@ SameReach m boxes p m' boxes' p' = (q : ℕ) → q < 32 → 0 < (m q).gauges →
 -- two piles over banks alike at all ports, with whatever joins, are alike at two ports that the same gauges reach
 abbrev pub SameGauges : Type 0
 SameGauges = (m m' : ℕ → Port) → Lawful m → Lawful m' → Alike m m' → (boxes boxes' : List (List Join)) (p p' : ℕ) → p < 32 → p' < 32 → SameReach m boxes p m' boxes' p' → pile m boxes p ≡ pile m' boxes' p'
+
+-- boxes that joins made over a bank, stood on one with the same gauge counts, are the pile of those joins over that one
+abbrev pub Restands : Type 0
+Restands = (m m' : ℕ → Port) → SameCounts m m' → (boxes : List (List Join)) → stood m' (maps m boxes) ≡ pile m' boxes
+
+-- what a pile shows once readings were taken at its ports is the pile of the same joins over a lawful bank with the same gauge
+-- counts: its own bank, less a reading of each gauge for each that was taken where it reaches. So the laws of grouping hold of it
+pub record TakenPile (m : ℕ → Port) (boxes : List (List Join)) (ps : List ℕ) : Type 0 where
+  pub lawful : Lawful (drained m boxes ps)
+  pub counts : SameCounts m (drained m boxes ps)
+  pub shows : Alike (after_takes (pile m boxes) ps) (pile (drained m boxes ps) boxes)
+
+abbrev pub TakenPiles : Type 0
+TakenPiles = (m : ℕ → Port) → Lawful m → (boxes : List (List Join)) (ps : List ℕ) → TakenPile m boxes ps

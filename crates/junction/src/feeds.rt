@@ -8,9 +8,6 @@ ghost use Rattle.junction.specs.Chains.{mapped, Chained};
 use bank::Address;
 use std::marker::Model;
 
-// How many ports a bank has.
-pub(crate) const PORTS: u8 = 32;
-
 // The chain of each port above: the first port below that feeds it, and from each port below the next that feeds the same.
 #[derive(Drop)]
 struct Chains {
@@ -24,8 +21,7 @@ fn chained(joined: &[Option<Address>; 32]) -> Chains
 {
     let mut first = [None; 32];
     let mut next = [None; 32];
-    for number in (0..PORTS).rev() {
-        let below = Address { number };
+    for below in Address::all().rev() {
         let above = joined[below.index()].unwrap_or(below);
         next[below.index()] = first[above.index()];
         first[above.index()] = Some(below);

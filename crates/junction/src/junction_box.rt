@@ -1,31 +1,26 @@
 // A junction box: it stands on any bank and is a bank again.
 ghost use Rattle.std.specs.Prelude.{◌≡◌, length};
-ghost use Rattle.bank.specs.Ports.{counts, drawing, first_at, rest_at};
-ghost use Rattle.junction.specs.Feeding.{fed, own};
-ghost use Rattle.junction.specs.Gather.{boxed, drawn, left_below, below_after};
-ghost use Rattle.junction.specs.Tallies.{CountsOf};
+ghost use Rattle.bank.specs.Ports.{first_at, rest_at};
+ghost use Rattle.junction.specs.Feeding.{own};
+ghost use Rattle.junction.specs.Gather.{boxed, left_below, below_after};
 ghost use Rattle.junction.specs.Limits.{boxed_sound};
 ghost use Rattle.junction.specs.Joins.{joining, rejoined};
 
 mod gathering;
 
-use crate::as_one::{UNDRAWN, one_fewer};
 use crate::feeds::Feeds;
-use bank::{Address, Counts, Drawn, GaugeBank, Reading, checked_port};
+use bank::{Address, GaugeBank, Reading, checked_port};
 use fault::{Cause, Fault};
-use gathering::{all_counts, draw_fed, dry_port, fed_counts};
+use gathering::{fed_gauges, fed_tally, gives, take_fed};
 
 // The most gauges that may feed one port.
 const MOST: u16 = 8;
 
-// A bank, and which port above each of its ports feeds. The counts of each port above are kept: nothing but the box's own draws alters the bank below, and a join counts anew.
+// A bank, and which port above each of its ports feeds. It keeps nothing of the bank below, and asks the ports that feed a port, of which the map knows the chain.
 #[derive(Drop)]
 pub struct JunctionBox<B: GaugeBank> {
     below: B,
     feeds: Feeds,
-    tallies: [Counts; 32],
-    ghost long: { length tallies ≡ 32 },
-    ghost each: { CountsOf (boxed feeds (B.shows below)) tallies },
 }
 
 impl<B: GaugeBank> JunctionBox<B> {
@@ -34,12 +29,9 @@ impl<B: GaugeBank> JunctionBox<B> {
         ensures bank { result.below ≡ below }
         ensures feeds { result.feeds ≡ own }
     {
-        let feeds = Feeds::new();
-        let tallies = all_counts(&below, &feeds);
         JunctionBox {
             below,
-            feeds,
-            tallies,
+            feeds: Feeds::new(),
         }
     }
 
@@ -52,34 +44,27 @@ impl<B: GaugeBank> JunctionBox<B> {
         let place = checked_port(below)?;
         let port = checked_port(above)?;
         let turned = self.feeds.turned(place, port);
-        if fed_counts(&self.below, &turned, port).gauges > MOST {
+        if fed_gauges(&self.below, &turned, port) > MOST {
             return Err(Cause::NinthGauge.at(port.index()));
         }
-        self.tallies = all_counts(&self.below, &turned);
         self.feeds = turned;
         Ok(())
     }
 
-    // Both counts of a port: the gauges that feed it in sum, and as many readings as in the shortest of the ports that feed it.
-    fn counts(&self, port: Address) -> Counts
-        ensures { result ≡ counts (boxed self.now.feeds (B.shows self.now.below) port.number) }
+    // How many gauges stand at a port: those that feed it, in sum.
+    fn gauge_count(&self, port: Address) -> u8
+        ensures { result ≡ (boxed self.now.feeds (B.shows self.now.below) port.number).gauges }
     {
-        self.tallies[port.index()]
+        let gauges = fed_gauges(&self.below, &self.feeds, port);
+        if gauges > MOST { 0 } else { gauges as u8 }
     }
 
-    // Draws at each port that feeds this one, as one.
-    fn draw_joined(&mut self, port: Address) -> Drawn
-        ensures answer { result ≡ drawing (boxed self.old.feeds (B.shows self.old.below) port.number) }
-        ensures after { boxed self.new.feeds (B.shows self.new.below) ≡ rest_at (boxed self.old.feeds (B.shows self.old.below)) port.number }
-        ensures below { B.shows self.new.below ≡ drawn (fed self.old.feeds) (B.shows self.old.below) port.number 32 }
-        ensures feeds { self.new.feeds ≡ self.old.feeds }
+    // How many readings wait at a port: as many as in the shortest of the ports that feed it.
+    fn reading_count(&self, port: Address) -> u16
+        ensures { result ≡ length (boxed self.now.feeds (B.shows self.now.below) port.number).waiting }
     {
-        let sum = draw_fed(&mut self.below, &self.feeds, port);
-        self.tallies[port.index()] = one_fewer(self.tallies[port.index()]);
-        if sum.gauges > MOST {
-            return UNDRAWN;
-        }
-        sum
+        let sum = fed_tally(&self.below, &self.feeds, port);
+        if sum.gauges > MOST { 0 } else { sum.waiting }
     }
 
     // Takes one reading of each port that feeds this one and has a gauge, as one reading; none where one of them has no reading.
@@ -89,12 +74,10 @@ impl<B: GaugeBank> JunctionBox<B> {
         ensures below { B.shows self.new.below ≡ left_below self.old.feeds (B.shows self.old.below) port.number }
         ensures feeds { self.new.feeds ≡ self.old.feeds }
     {
-        let empty = Cause::TooFewReadings.at(port.index());
-        if self.counts(port).gauges == 0 || dry_port(&self.below, &self.feeds, port).is_some() {
-            return Err(empty);
+        if !gives(&self.below, &self.feeds, port) {
+            return Err(Cause::TooFewReadings.at(port.index()));
         }
-        let drawn = self.draw_joined(port);
-        drawn.reading.ok_or(empty)
+        Ok(take_fed(&mut self.below, &self.feeds, port))
     }
 }
 
@@ -105,12 +88,12 @@ impl<B: GaugeBank> GaugeBank for JunctionBox<B> {
 
     fn gauges(&self, port: u8) -> Result<u8, Fault> {
         let place = checked_port(port)?;
-        Ok(self.counts(place).gauges as u8)
+        Ok(self.gauge_count(place))
     }
 
     fn waiting(&self, port: u8) -> Result<u16, Fault> {
         let place = checked_port(port)?;
-        Ok(self.counts(place).waiting)
+        Ok(self.reading_count(place))
     }
 
     fn take(&mut self, port: u8) -> Result<Reading, Fault>
@@ -121,18 +104,5 @@ impl<B: GaugeBank> GaugeBank for JunctionBox<B> {
     {
         let place = checked_port(port)?;
         self.take_joined(place)
-    }
-
-    fn tally(&self, port: Address) -> Counts {
-        self.counts(port)
-    }
-
-    fn draw(&mut self, port: Address) -> Drawn
-        ensures answer { result ≡ drawing (boxed self.old.feeds (B.GaugeBank.shows self.old.below) port.number) }
-        ensures after { boxed self.new.feeds (B.GaugeBank.shows self.new.below) ≡ rest_at (boxed self.old.feeds (B.GaugeBank.shows self.old.below)) port.number }
-        ensures below { B.GaugeBank.shows self.new.below ≡ drawn (fed self.old.feeds) (B.GaugeBank.shows self.old.below) port.number 32 }
-        ensures feeds { self.new.feeds ≡ self.old.feeds }
-    {
-        self.draw_joined(port)
     }
 }

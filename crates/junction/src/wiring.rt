@@ -2,8 +2,8 @@
 ghost use Rattle.std.specs.Prelude.{◌≡◌, [], ◌∷◌};
 ghost use Rattle.junction.specs.Feeding.{own};
 ghost use Rattle.junction.specs.Gather.{boxed};
-ghost use Rattle.junction.specs.Joins.{after_joins, refusal_count, refusals, CountedOnce};
-ghost use Rattle.junction.specs.Piles.{pile, Free, Eight, Gathers, SameGauges};
+ghost use Rattle.junction.specs.Joins.{after_joins, refusal_count, refusals, CountedOnce, CountsAlone};
+ghost use Rattle.junction.specs.Piles.{pile, Free, Eight, Gathers, SameGauges, Restands, TakenPiles};
 
 use crate::{Join, JunctionBox};
 use bank::GaugeBank;
@@ -29,11 +29,14 @@ pub fn wired<B: GaugeBank>(bank: B, joins: &[Join]) -> WiredBox<B>
     ensures feeds { result.junction.feeds ≡ after_joins (B.shows bank) own joins.now }
     ensures refused { result.refused ≡ refusals (B.shows bank) own joins.now }
     ensures meaning { boxed result.junction.feeds (B.shows result.junction.below) ≡ pile (B.shows bank) (joins.now ∷ []) }
+    ensures counts { CountsAlone }
     ensures once { CountedOnce }
     ensures free { Free }
     ensures eight { Eight }
     ensures gathers { Gathers }
     ensures regroups { SameGauges }
+    ensures restands { Restands }
+    ensures taken { TakenPiles }
 {
     let mut junction = JunctionBox::new(bank);
     let mut refused = 0usize;

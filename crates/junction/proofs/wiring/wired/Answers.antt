@@ -2,6 +2,8 @@ use Rattle.std.proofs.Common.{ap, ◌∙◌, arith}
 use Rattle.junction.specs.Gather.{boxed}
 use Rattle.junction.proofs.Turns.{at_most_one, done_feeds, done_refused, turn_feeds, turn_refusals}
 use Rattle.junction.proofs.Once.{counted_once, free}
+use Rattle.junction.proofs.Counted.{counts_alone, restands}
+use Rattle.junction.proofs.Drained.{taken_piles}
 use Rattle.junction.proofs.Rejoined.{eight}
 use Rattle.junction.proofs.Piles.{gathers, same_gauges}
 use Rattle.junction.proofs.wiring.wired.Goals as goal
@@ -45,9 +47,12 @@ returns g c =
       feeds = feeds;
       refused = done_refused m k js i h first fs c.new-junction.ensures.feeds same c.loop-join.refused c.loop-join.invariant.count;
       meaning = λ t. boxed (feeds t) (shows (bank t));
+      counts = counts_alone;
       once = counted_once;
       free = free;
       eight = eight;
       gathers = gathers;
       regroups = same_gauges;
+      restands = restands;
+      taken = taken_piles;
     }

@@ -1,31 +1,40 @@
-use Rattle.std.proofs.Common.{◌≡◌, length, sym, ap, ◌∙◌}
+use Rattle.std.proofs.Common.{Bool, cond, Err, refl, sym, ap, ◌∙◌}
 use Rattle.fault.specs.declared.causes.Cause.TheVariants.{TooFewReadings}
 use Rattle.fault.specs.Faults.{refusal}
-use Rattle.bank.proofs.Empty.{empty_rest}
-use Rattle.bank.specs.declared.counts.Counts.{Counts}
-use Rattle.junction.specs.Gather.{boxed}
-use Rattle.junction.proofs.Taking.{bare_waits, dry_waits, refused_first}
+use Rattle.bank.proofs.Empty.{empty_first, empty_rest}
+use Rattle.junction.specs.Feeding.{fed}
+use Rattle.junction.specs.Gather.{boxed, drawn}
+use Rattle.junction.proofs.Taking.{none_waits, finds_none, given_first, box_drawn}
 use Rattle.junction.proofs.junction_box.JunctionBox.take_joined.Goals as goal
-use Rattle.junction.proofs.junction_box.JunctionBox.take_joined.Goals.{then-counts-eq0-via-then-counts-eq0, then-counts-eq0-via-else-counts-eq0+then-is_some}
 
-pub returns-then-counts-eq0-clause-answer : goal.returns-then-counts-eq0-clause-answer
-returns-then-counts-eq0-clause-answer g c =
+pub take_fed-requires : goal.take_fed-requires
+take_fed-requires g c =
+    let s = c.args.self.now in
+    finds_none s.feeds (g.B.GaugeBank.shows s.below) c.args.port.number (sym c.gives.ensures ∙ c.if-not-gives.false)
+
+pub returns : goal.returns
+returns g c =
     let s = c.args.self.now in
     let m = g.B.GaugeBank.shows s.below in
     let p = c.args.port.number in
-    let none_waits : length (boxed s.feeds m p).waiting ≡ 0 =
-    elim c.then-counts-eq0.branch [
-      | then-counts-eq0-via-then-counts-eq0 w ↦ bare_waits s.feeds m p (g.B.GaugeBank.sound s.below) (sym (ap (λ (d : Counts). d.gauges) c.counts.ensures) ∙ w.if-counts-eq0.true)
-      | then-counts-eq0-via-else-counts-eq0+then-is_some w ↦ dry_waits s.feeds m p _ w.dry_port.ensures (sym w.is_some.ensures ∙ w.if-is_some.true)
-    ] in
-    refused_first s.feeds m p _ c.args.port.low (c.at-empty.ensures ∙ ap (refusal TooFewReadings) c.index.ensures) none_waits
+    let so = sym c.gives.ensures ∙ c.if-not-gives.false in
+    record {
+      answer = given_first s.feeds m p so _ c.args.port.low c.take_fed.ensures.answer;
+      after = box_drawn s.feeds m _ p c.args.port.low c.take_fed.ensures.after;
+      below = c.take_fed.ensures.after ∙ sym (ap (λ (b : Bool). cond b (drawn (fed s.feeds) m p 32) m) so);
+      feeds = refl;
+    }
 
-pub returns-then-counts-eq0-clause-after : goal.returns-then-counts-eq0-clause-after
-returns-then-counts-eq0-clause-after g c =
+pub returns-then-not-gives : goal.returns-then-not-gives
+returns-then-not-gives g c =
     let s = c.args.self.now in
     let m = g.B.GaugeBank.shows s.below in
     let p = c.args.port.number in
-    elim c.then-counts-eq0.branch [
-      | then-counts-eq0-via-then-counts-eq0 w ↦ rw w.self-is (empty_rest (boxed s.feeds m) p (bare_waits s.feeds m p (g.B.GaugeBank.sound s.below) (sym (ap (λ (d : Counts). d.gauges) c.counts.ensures) ∙ w.if-counts-eq0.true)))
-      | then-counts-eq0-via-else-counts-eq0+then-is_some w ↦ rw w.self-is (empty_rest (boxed s.feeds m) p (dry_waits s.feeds m p _ w.dry_port.ensures (sym w.is_some.ensures ∙ w.if-is_some.true)))
-    ]
+    let not = sym c.gives.ensures ∙ c.if-not-gives.true in
+    let none = none_waits s.feeds m p (g.B.GaugeBank.sound s.below) not in
+    record {
+      answer = ap Err (c.at.ensures ∙ ap (refusal TooFewReadings) c.index.ensures) ∙ empty_first (boxed s.feeds m) p none c.args.port.low;
+      after = empty_rest (boxed s.feeds m) p none;
+      below = sym (ap (λ (b : Bool). cond b (drawn (fed s.feeds) m p 32) m) not);
+      feeds = refl;
+    }

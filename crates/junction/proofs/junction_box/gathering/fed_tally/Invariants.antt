@@ -1,23 +1,21 @@
 use Rattle.std.proofs.Common.{◌≡◌, ◌-◌}
 use Rattle.std.specs.Option.{option_map}
 use Rattle.bank.specs.Addresses.{number_of}
-use Rattle.bank.specs.Ports.{drawing}
+use Rattle.junction.specs.Counting.{tally_of}
 use Rattle.junction.specs.Feeding.{fed}
-use Rattle.junction.specs.Gather.{gather, drawn}
+use Rattle.junction.specs.Gather.{gather}
 use Rattle.junction.proofs.Walks.{stop, Stands}
-use Rattle.junction.proofs.junction_box.gathering.draw_fed.Given as goal
+use Rattle.junction.proofs.junction_box.gathering.fed_tally.Given as goal
 
--- the ports below the one where the walk stands are drawn from
+-- the ports below the one where the walk stands are gathered
 abbrev pub invariant-loop-at : goal.invariant-loop-at
 invariant-loop-at g l =
     let f = fed l.feeds in
-    let m = g.B.GaugeBank.shows l.fn.below in
     let p = l.fn.port.number in
     let o = option_map number_of l.at in
     record {
       here : Stands f p o;
-      so_far : l.sum ≡ drawing (gather f m p (stop o));
-      left : g.B.GaugeBank.shows l.below ≡ drawn f m p (stop o);
+      so_far : l.sum ≡ tally_of (gather f (g.B.GaugeBank.shows l.below) p (stop o));
     }
 
 abbrev pub decreases-loop-at : goal.decreases-loop-at

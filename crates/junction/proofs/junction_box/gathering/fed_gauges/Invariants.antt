@@ -1,13 +1,12 @@
 use Rattle.std.proofs.Common.{◌≡◌, ◌-◌}
 use Rattle.std.specs.Option.{option_map}
 use Rattle.bank.specs.Addresses.{number_of}
-use Rattle.bank.specs.Ports.{counts}
 use Rattle.junction.specs.Feeding.{fed}
 use Rattle.junction.specs.Gather.{gather}
 use Rattle.junction.proofs.Walks.{stop, Stands}
-use Rattle.junction.proofs.junction_box.gathering.fed_counts.Given as goal
+use Rattle.junction.proofs.junction_box.gathering.fed_gauges.Given as goal
 
--- the ports below the one where the walk stands are gathered
+-- the gauges below the port where the walk stands are counted
 abbrev pub invariant-loop-at : goal.invariant-loop-at
 invariant-loop-at g l =
     let f = fed l.feeds in
@@ -15,7 +14,7 @@ invariant-loop-at g l =
     let o = option_map number_of l.at in
     record {
       here : Stands f p o;
-      so_far : l.sum ≡ counts (gather f (g.B.GaugeBank.shows l.below) p (stop o));
+      so_far : l.gauges ≡ (gather f (g.B.GaugeBank.shows l.below) p (stop o)).gauges;
     }
 
 abbrev pub decreases-loop-at : goal.decreases-loop-at
