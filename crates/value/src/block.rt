@@ -45,7 +45,7 @@ impl Ending {
 }
 
 // Writes one value, or nothing where it has no room: how many bytes were written.
-// Kept: (d) address and nominal value side by side: a struct of the two would have no meaning of its own.
+// Address and nominal value stand side by side: a struct of the two would have no meaning of its own.
 pub fn write_value<F: ValueFormat>(
     measured: Measured,
     address: u8,

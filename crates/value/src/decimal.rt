@@ -52,9 +52,9 @@ impl ValueFormat for DecimalStatus {
 
     ghost WIDTH = { 15 };
 
-    const FULL_SCALE: u32 = 1_000_000;
+    const FULL_SCALE: u32 = Decimal::FULL_SCALE;
 
-    ghost FULL_SCALE = { 1000000 };
+    ghost FULL_SCALE = { ⟦<Decimal as ValueFormat>⟧.FULL_SCALE };
 
     const LIMITS: Limits = DECIMAL_LIMITS;
 

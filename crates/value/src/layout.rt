@@ -71,12 +71,14 @@ impl Layout {
         ensures { result ≡ (shape self).full }
     {
         match self {
-            Layout::ThreeBytes
-            | Layout::ThreeBytesStatus
-            | Layout::ThreeBytesReversed
-            | Layout::ThreeBytesStatusReversed => ThreeBytes::FULL_SCALE,
-            Layout::TwoBytes | Layout::TwoBytesReversed => TwoBytes::FULL_SCALE,
-            Layout::Decimal | Layout::DecimalStatus => Decimal::FULL_SCALE,
+            Layout::ThreeBytes => ThreeBytes::FULL_SCALE,
+            Layout::ThreeBytesStatus => ThreeBytesStatus::FULL_SCALE,
+            Layout::ThreeBytesReversed => Reversed::<ThreeBytes>::FULL_SCALE,
+            Layout::ThreeBytesStatusReversed => Reversed::<ThreeBytesStatus>::FULL_SCALE,
+            Layout::TwoBytes => TwoBytes::FULL_SCALE,
+            Layout::TwoBytesReversed => Reversed::<TwoBytes>::FULL_SCALE,
+            Layout::Decimal => Decimal::FULL_SCALE,
+            Layout::DecimalStatus => DecimalStatus::FULL_SCALE,
         }
     }
 
@@ -85,12 +87,16 @@ impl Layout {
         ensures { result ≡ fits (shape self).limits nominal value }
     {
         match self {
-            Layout::ThreeBytes
-            | Layout::ThreeBytesStatus
-            | Layout::ThreeBytesReversed
-            | Layout::ThreeBytesStatusReversed => ThreeBytes::LIMITS.fits(nominal, value),
-            Layout::TwoBytes | Layout::TwoBytesReversed => TwoBytes::LIMITS.fits(nominal, value),
-            Layout::Decimal | Layout::DecimalStatus => Decimal::LIMITS.fits(nominal, value),
+            Layout::ThreeBytes => ThreeBytes::LIMITS.fits(nominal, value),
+            Layout::ThreeBytesStatus => ThreeBytesStatus::LIMITS.fits(nominal, value),
+            Layout::ThreeBytesReversed => Reversed::<ThreeBytes>::LIMITS.fits(nominal, value),
+            Layout::ThreeBytesStatusReversed => {
+                Reversed::<ThreeBytesStatus>::LIMITS.fits(nominal, value)
+            }
+            Layout::TwoBytes => TwoBytes::LIMITS.fits(nominal, value),
+            Layout::TwoBytesReversed => Reversed::<TwoBytes>::LIMITS.fits(nominal, value),
+            Layout::Decimal => Decimal::LIMITS.fits(nominal, value),
+            Layout::DecimalStatus => DecimalStatus::LIMITS.fits(nominal, value),
         }
     }
 
@@ -109,7 +115,7 @@ impl Layout {
         // One of a family stands for all, so that each arm knows its ending.
         let binary = Layout::ThreeBytes.ending(ended);
         let decimal = Layout::Decimal.ending(ended);
-        // Kept: (c) a writer for each layout behind one function pointer was tried: no pointer to a generic function gets a proof.
+        // An arm for each layout: no pointer to a generic function gets a proof, so the writers cannot stand behind one.
         match self {
             Layout::ThreeBytes => write_block::<ThreeBytes>(values, address, nominal, binary, out),
             Layout::ThreeBytesStatus => {

@@ -3,7 +3,7 @@ ghost use Rattle.std.specs.Prelude.{◌≡◌, length};
 ghost use Rattle.value.specs.Written.{granted, written};
 
 // Writes the bytes at the front of the buffer, or nothing where they do not all have room: how many were written.
-// Kept: (a) a number of bytes and no slice: the C interface and `Obeyed` answer how many were written, in a buffer that the caller lends.
+// It answers a number and no slice, as the C interface and `Obeyed` do of a buffer that the caller lends.
 pub(crate) fn place(bytes: &[u8], out: &mut [u8]) -> usize
     ensures count { result ≡ length (granted out.old bytes.now) }
     ensures buffer { out.new ≡ written out.old bytes.now }
