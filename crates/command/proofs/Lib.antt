@@ -3,7 +3,7 @@ mod Splits
 mod Near
 mod Sizes
 mod Leading
-mod Rows
+pub mod Rows
 mod Options
 mod Quoted
 mod Ranges

@@ -32,6 +32,14 @@ admits (Between lowest highest) n = int_le lowest n && int_le n highest
 admits Formats n = among formats n
 admits Steps n = among steps n
 
+-- a parameter of this kind may be the number n
+abbrev pub number_for : Option Kind → ℤ → Bool
+number_for None n = false
+number_for (Some Nothing) n = false
+number_for (Some (Number l)) n = admits l n
+number_for (Some (OptionalNumber l)) n = admits l n
+number_for (Some Text) n = false
+
 -- a number within the limits
 abbrev pub ranged : Limits → ℤ → Result Argument Cause
 ranged l n = cond (admits l n) (Ok (a_number n)) (Err OutOfRange)

@@ -7,9 +7,11 @@ use Rattle.command.specs.declared.orders.Argument.{Argument}
 use Rattle.command.specs.declared.orders.Argument.TheVariants.{Absent, Number, Text}
 use Rattle.command.specs.declared.orders.Form.{Form}
 use Rattle.command.specs.declared.orders.Form.TheVariants.{Entry, Query}
+use Rattle.command.specs.declared.orders.Mnemonic.{Mnemonic}
 use Rattle.command.specs.declared.orders.Order.{Order}
 use Rattle.command.specs.declared.table.Need.{Need}
 use Rattle.command.specs.declared.table.Need.TheVariants.{Never, Always, ForZero}
+use Rattle.command.specs.Arguments.{number_for}
 use Rattle.command.specs.Table.{row_of}
 
 -- the argument is the number 0
@@ -41,3 +43,7 @@ above (Some most) (Text t) = false
 -- an order as a broadcast hears it: a number above the highest in a broadcast is outside the range
 unfoldable pub broadcast_of : Order → Result Order Fault
 broadcast_of o = cond (above (row_of o.name).broadcast o.argument) (Err (refusal OutOfRange o.place)) (Ok o)
+
+-- the table admits the number n in the query of a command
+abbrev pub query_admits : Mnemonic → ℤ → Bool
+query_admits name n = number_for (row_of name).query n

@@ -15,6 +15,10 @@ use Rattle.command.specs.declared.table.Row.{Row}
 abbrev pub row : List ℕ → Mnemonic → Option Kind → Option Kind → Need → Option ℤ → Row
 row initials name entry query need most = record { initials = initials; name = name; entry = entry; query = query; password = need; broadcast = most }
 
+-- the most values that one command asks for
+abbrev pub most_values : ℕ
+most_values = 64
+
 -- each command: its initials, what an entry takes, what a query takes, whether an entry needs the password, and the
 -- highest number in a broadcast where that is another
 abbrev pub row_of : Mnemonic → Row
@@ -27,7 +31,7 @@ row_of Lwt = row (codes "LWT") Lwt (Some (OptionalNumber (Between (neg_ℤ (pos 
 row_of Tar = row (codes "TAR") Tar (Some Nothing) None Never None
 row_of Tas = row (codes "TAS") Tas (Some (Number (Between (pos 0) (pos 1)))) (Some Nothing) Never None
 row_of Tav = row (codes "TAV") Tav None (Some Nothing) Never None
-row_of Msv = row (codes "MSV") Msv None (Some (OptionalNumber (Between (pos 1) (pos 64)))) Never (Some (pos 1))
+row_of Msv = row (codes "MSV") Msv None (Some (OptionalNumber (Between (pos 1) (pos most_values)))) Never (Some (pos 1))
 row_of Spw = row (codes "SPW") Spw (Some Text) None Never None
 row_of Dpw = row (codes "DPW") Dpw (Some Text) None Never None
 row_of Tdd = row (codes "TDD") Tdd (Some (Number (Between (pos 0) (pos 1)))) None ForZero None

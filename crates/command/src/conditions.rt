@@ -1,10 +1,10 @@
-// What the table asks of an order besides its reading: the password, and a lower limit in a broadcast.
+// What the table asks of an order besides its reading: the password, a lower limit in a broadcast, and the limits of a query's number.
 ghost use Rattle.std.specs.Prelude.{◌≡◌};
-ghost use Rattle.command.specs.Conditions.{zero_given, needed as needed_of, needs_password, above as above_of, broadcast_of};
+ghost use Rattle.command.specs.Conditions.{zero_given, needed as needed_of, needs_password, above as above_of, broadcast_of, query_admits};
 
 use crate::lookup::row_of;
-use crate::orders::{Argument, Form, Order};
-use crate::table::Need;
+use crate::orders::{Argument, Form, Mnemonic, Order};
+use crate::table::{Kind, Need};
 use fault::{Cause, Fault};
 
 // Whether the argument is the number 0.
@@ -55,4 +55,14 @@ pub fn in_broadcast(order: Order) -> Result<Order, Fault>
         return Err(Cause::OutOfRange.at(order.place));
     }
     Ok(order)
+}
+
+// Whether the table admits a number in the query of a command.
+pub fn query_admits(name: Mnemonic, n: i32) -> bool
+    ensures { result ≡ query_admits name n }
+{
+    match row_of(name).query {
+        Some(Kind::Number(limits) | Kind::OptionalNumber(limits)) => limits.admits(i64::from(n)),
+        Some(Kind::Nothing | Kind::Text) | None => false,
+    }
 }

@@ -13,10 +13,11 @@ mod reader;
 mod table;
 mod texts;
 
-pub use conditions::{in_broadcast, needs_password};
+pub use conditions::{in_broadcast, needs_password, query_admits};
 pub use cut::split;
 pub use decimal::number;
 pub use examples::examples_hold;
 pub use orders::{Argument, Form, Heard, Mnemonic, Order};
 pub use reader::read;
+pub use table::MOST_VALUES;
 pub use texts::{Text, quoted_text};

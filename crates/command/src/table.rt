@@ -7,7 +7,7 @@ ghost use Rattle.command.specs.Table.{rows as commands, kind_of};
 use crate::orders::{Form, Mnemonic};
 
 // The numbers that a parameter may be: all from the lowest to the highest, or those of a set.
-// Kept: (d) a variant for each of the two sets: a set by reference has an address too, which the defined table cannot state.
+// Each of the two sets is a variant: a set by reference has an address too, which the defined table cannot state.
 #[derive(Clone, Copy)]
 pub(crate) enum Limits {
     Between(i32, i32),
@@ -65,6 +65,9 @@ const FORMATS: [i64; 16] = [0, 2, 3, 4, 6, 8, 9, 12, 32, 34, 35, 36, 38, 40, 41,
 
 // The display steps.
 const STEPS: [i64; 7] = [1, 2, 5, 10, 20, 50, 100];
+
+// The most values that one command asks for.
+pub const MOST_VALUES: usize = 64;
 
 const ROWS: [Row; 15] = [
     Row {
@@ -143,7 +146,7 @@ const ROWS: [Row; 15] = [
         initials: *b"MSV",
         name: Mnemonic::Msv,
         entry: None,
-        query: Some(Kind::OptionalNumber(Limits::Between(1, 64))),
+        query: Some(Kind::OptionalNumber(Limits::Between(1, MOST_VALUES as i32))),
         password: Need::Never,
         broadcast: Some(1),
     },

@@ -6,7 +6,7 @@ ghost use Rattle.command.specs.Texts.{padded as padded_of, alnum as alnum_of, le
 const LONGEST: usize = 7;
 
 // Letters and digits, where case counts. The bytes past the length are 0, so equal texts are equal in every field.
-// Kept: (a) bytes with a length beside them, since each of 32 scales holds its password by value, in fixed memory.
+// The bytes have their length beside them, since each of 32 scales holds its password by value, in fixed memory.
 #[derive(Clone, Copy, Debug, PartialEq, Eq)]
 pub struct Text {
     pub bytes: [u8; 7],

@@ -1,8 +1,9 @@
 -- What an order asks of a scale.
-use Rattle.std.specs.Prelude.{ℕ, Bool, true, false, cond, ◌&&◌, ℤ, pos, negsuc, Ok, Err, Result, nat_le}
+use Rattle.std.specs.Prelude.{ℕ, Bool, true, false, cond, ℤ, pos, negsuc, Ok, Err, Result}
 use Rattle.fault.specs.declared.faults.Fault.{Fault}
 use Rattle.fault.specs.declared.causes.Cause.TheVariants.{Malformed, OutOfRange}
 use Rattle.fault.specs.Faults.{refusal}
+use Rattle.command.specs.Conditions.{query_admits}
 use Rattle.command.specs.declared.orders.Argument.{Argument}
 use Rattle.command.specs.declared.orders.Argument.TheVariants.{Absent, Number, Text}
 use Rattle.command.specs.declared.orders.Form.{Form}
@@ -76,11 +77,12 @@ text_in Absent place = Err (refusal Malformed place)
 text_in (Number n) place = Err (refusal Malformed place)
 text_in (Text t) place = Ok t
 
--- one value, or 1 to 64
+-- so many values as the table admits
 abbrev pub few : ℤ → ℕ → Result ℕ Fault
-few (pos n) place = cond (nat_le 1 n && nat_le n 64) (Ok n) (Err (refusal OutOfRange place))
+few (pos n) place = cond (query_admits Msv (pos n)) (Ok n) (Err (refusal OutOfRange place))
 few (negsuc n) place = Err (refusal OutOfRange place)
 
+-- how many values are asked for: one where nothing is said
 abbrev pub block_size : Argument → ℕ → Result ℕ Fault
 block_size Absent place = Ok 1
 block_size (Number n) place = few n place

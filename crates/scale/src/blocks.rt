@@ -1,6 +1,7 @@
 // Weighing: measured values one after another, and a value held for later.
 ghost use Rattle.std.specs.Prelude.{◌≡◌, ◌*◌, ◌≤◌, length, Ok};
 ghost use Rattle.bank.specs.Fitting.{mapped_ok};
+ghost use Rattle.command.specs.Table.{most_values};
 ghost use Rattle.value.specs.Output.{format_block};
 ghost use Rattle.value.specs.Written.{granted, written};
 ghost use Rattle.scale.specs.Measuring.{put_port, dropped, measures, measured_port};
@@ -11,6 +12,7 @@ use crate::scale::Scale;
 use crate::settings::Settings;
 use crate::state::Ticket;
 use bank::{Address, GaugeBank};
+use command::MOST_VALUES;
 use fault::Fault;
 use value::block::Measured;
 
@@ -20,11 +22,9 @@ const UNMEASURED: Measured = Measured {
     status: 0,
 };
 
-// The most values of a block.
-const MOST_VALUES: usize = 64;
-
 impl Scale {
-    // Weighs as often as there are places, for which readings enough wait.
+    // Weighs as often as there are places, for which readings enough wait: no fault comes, and it answers a `Result` as
+    // `measured` does.
     fn weigh_all<B: GaugeBank>(
         &self,
         bank: &mut B,
@@ -94,7 +94,7 @@ impl Scale {
         count: u8,
         out: &mut [u8],
     ) -> Result<usize, Fault>
-        requires { count ≤ 64 }
+        requires { count ≤ most_values }
         ensures answer { result ≡ mapped_ok (λ bytes. length (granted out.old bytes)) (blocks address.number count self.now.state.force (B.shows bank.old address.number)) }
         ensures buffer { out.new ≡ written_by out.old (blocks address.number count self.now.state.force (B.shows bank.old address.number)) }
         ensures after { B.shows bank.new ≡ put_port (B.shows bank.old) address.number (block_port count self.now.state.force (B.shows bank.old address.number)) }
@@ -107,7 +107,7 @@ impl Scale {
         if count == 1 {
             return self.write_one(bank, address, out);
         }
-        // Kept: (a) an array of the most values with their count beside it: a scale asks for no memory.
+        // An array of the most values, of which the first so many are used: a scale asks for no memory.
         let mut values = [UNMEASURED; MOST_VALUES];
         self.write_all(bank, address, &mut values[..usize::from(count)], out)
     }

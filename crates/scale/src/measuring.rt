@@ -15,8 +15,8 @@ pub struct Measurement {
     pub mark: Mark,
 }
 
-// A sum of readings with one reading more.
-// Kept: (a) a box adds two readings alike; one call for both would be public, may ask for no bounds, and so could not promise the exact sum.
+// A sum of readings with one reading more. A box adds two readings alike, by itself: one call for both would be public,
+// may ask for no bounds, and so could not promise the exact sum.
 fn with(sum: Reading, reading: Reading) -> Reading
     requires so_far { unsigned_abs sum.load ≤ 2 ^ 60 }
     requires one { unsigned_abs reading.load ≤ 2 ^ 60 }
@@ -68,7 +68,8 @@ fn total<B: GaugeBank>(bank: &mut B, address: Address, readings: u8) -> Result<R
     Ok(sum)
 }
 
-// The measurement of the first readings that wait, which are enough.
+// The measurement of the first readings that wait, which are enough: no fault comes. It answers a `Result`, as all that
+// weighs does, since the fault of the bank's `take` goes up by `?` from the bank through measuring to the line.
 pub(crate) fn measured<B: GaugeBank>(
     bank: &mut B,
     address: Address,
@@ -83,8 +84,8 @@ pub(crate) fn measured<B: GaugeBank>(
     Ok(mean(sum, averaging))
 }
 
-// Takes the readings of one measurement, or none where too few wait.
-// Kept: (d) bank and address in one struct: it holds a `&mut`, so each call would promise two things more, that it keeps its reference and its address.
+// Takes the readings of one measurement, or none where too few wait. Bank and address are no struct: it would hold a
+// `&mut`, and each call would promise two things more, that it keeps its reference and its address.
 pub(crate) fn measure<B: GaugeBank>(
     bank: &mut B,
     address: Address,

@@ -2,11 +2,10 @@
 ghost use Rattle.std.specs.Prelude.{◌≡◌};
 ghost use Rattle.scale.specs.Orders.{number_in, text_in, block_size, task_of, for_values};
 
-use command::{Argument, Form, Mnemonic, Order, Text};
+use command::{Argument, Form, Mnemonic, Order, Text, query_admits};
 use fault::{Cause, Fault};
 
-// The number of an order.
-// Kept: (d) a function for the number and one for the text: they share no more than the refusal.
+// The number of an order. It and `text_of` are two functions, since they share no more than the refusal.
 pub(crate) fn number_of(order: Order) -> Result<i32, Fault>
     ensures { result ≡ number_in order.argument order.place }
 {
@@ -26,13 +25,13 @@ pub(crate) fn text_of(order: Order) -> Result<Text, Fault>
     }
 }
 
-// How many values an order asks for: one where it does not say.
+// How many values an order asks for: one where it does not say, and else what the table admits.
 pub(crate) fn block_size_of(order: Order) -> Result<u8, Fault>
     ensures { result ≡ block_size order.argument order.place }
 {
     match order.argument {
         Argument::Absent => Ok(1),
-        Argument::Number(n @ 1..=64) => Ok(n as u8),
+        Argument::Number(n) if query_admits(Mnemonic::Msv, n) => Ok(n as u8),
         Argument::Number(_) => Err(Cause::OutOfRange.at(order.place)),
         Argument::Text(_) => Err(Cause::Malformed.at(order.place)),
     }

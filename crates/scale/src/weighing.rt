@@ -16,8 +16,8 @@ use value::output::OutputFormat;
 use value::scaling::shown;
 use value::status::status;
 
-// The exact difference of two loads.
-// Kept: (c) a function: with `-` written out, the proof of what a load shows did not close.
+// The exact difference of two loads. It is a function, since the proof of what a load shows did not close with `-`
+// written out.
 pub(crate) fn less(load: i64, other: i64) -> i64
     requires load { unsigned_abs load ≤ 2 ^ 60 }
     requires other { unsigned_abs other ≤ 2 ^ 60 }
@@ -89,7 +89,7 @@ impl Scale {
     }
 
     // Measures once, where readings enough wait: net or gross, as the settings in force have it, and the status of both.
-    // Inlined, since a block calls it for each of its values.
+    // No fault comes, and it answers a `Result` as `measured` does. Inlined, since a block calls it for each of its values.
     #[inline(always)]
     pub(crate) fn weigh<B: GaugeBank>(
         &self,
