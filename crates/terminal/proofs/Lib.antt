@@ -5,4 +5,5 @@ pub mod Turns
 pub mod Splits
 pub mod Spelling
 pub mod Affairs
+pub mod Ample
 pub mod Logs

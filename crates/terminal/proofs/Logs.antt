@@ -1,19 +1,26 @@
--- What each call leaves, one turn of the loop over calls, and the laws of whole runs.
-use Rattle.std.proofs.Common.{◌≡◌, ℕ, ◌+◌, ◌<◌, ◌≤◌, List, [], ◌∷◌, ◌++◌, length, get_or, take, drop, sym, refl, ap, ◌∙◌, arith, rules}
+-- What each call leaves, one turn of the loop over exchanges, and the laws of whole runs.
+use Rattle.std.proofs.Common.{◌≡◌, ℕ, ◌+◌, ◌<◌, ◌≤◌, List, [], ◌∷◌, ◌++◌, map, length, get_or, set, take, drop, Some, sym, refl, ap, ◌∙◌, subst, vec_items, vec_len, arith, rules}
 use Rattle.std.proofs.lemmas.Grind.{common_steps}
-use Rattle.std.proofs.lemmas.List.{take_at}
+use Rattle.std.proofs.lemmas.List.{length-append, length-drop, with_items_is}
+use Rattle.std.specs.Vec.{with_items}
 use Rattle.bank.specs.Ports.{Port}
 use Rattle.junction.specs.Piles.{pile}
 use Rattle.junction.proofs.Piles.{gathers, same_gauges}
+use Rattle.command.specs.Readings.{reading}
 use Rattle.scale.specs.declared.modes.Mode.TheVariants.{Selected}
 use Rattle.scale.specs.States.{fresh}
 use Rattle.terminal.specs.declared.calls.Call.{Call}
+use Rattle.terminal.specs.declared.calls.Call.TheVariants.{Obey, Serve}
+use Rattle.terminal.specs.declared.calls.Exchange.{Exchange}
 use Rattle.terminal.specs.declared.calls.Outcome.{Outcome}
-use Rattle.terminal.specs.Buses.{Bus, after, silent}
-use Rattle.terminal.specs.Serves.{afters, answered}
+use Rattle.terminal.specs.declared.calls.Outcome.TheVariants.{Command, Run}
+use Rattle.terminal.specs.Buses.{Bus, after, reply, silent, uttered}
+use Rattle.terminal.specs.Serves.{cut, afters, answered, served}
 use Rattle.terminal.specs.Transcripts.{Line, lines, said, heard, voiced}
-use Rattle.terminal.specs.Calls.{Ask, room_of, ask_in, ask_of, executed, outcome_of, left, spoke, written_of, next, Shown, report, reports, closing, transcript}
-use Rattle.terminal.specs.Laws.{OwnAffair, follow, AsAlone, Regrouped, Came}
+use Rattle.terminal.specs.Calls.{Ask, obeying, serving, asked, ask_of, executed, outcome_of, sheet, next, exchanged, settled, closing, transcript}
+use Rattle.terminal.specs.Laws.{Answered, AllAnswered, OwnAffair, follow, AsAlone, Regrouped, Came}
+use Rattle.terminal.proofs.Rooms.{worded_brief}
+use Rattle.terminal.proofs.Ample.{taken_within}
 use Rattle.terminal.proofs.Affairs.{projected}
 
 -- ---- one call
@@ -21,24 +28,58 @@ said_lines : (b : Bus) (ts : List (List ℕ)) → answered b ts ≡ said (lines 
 said_lines b [] = refl
 said_lines b (t ∷ ts) = search (rules, said_lines (after b t) ts)
 
--- what a call replies, made in a buffer of n bytes that is cut at the k bytes written
-pub replied : (c : Call) (n k : ℕ) (b b' : Bus) (w : Outcome) (out z items : List ℕ) → n ≡ room_of c → k ≡ written_of w
-    → b' ≡ left b (ask_in n c) → w ≡ outcome_of b (ask_in n c) → out ≡ spoke b (ask_in n c) ++ z → items ≡ take k out
-    → (b' ≡ next b (ask_of c)) × (◌≡◌ {A = Shown} (record { outcome = w; bytes = items }) (report b (ask_of c)))
-replied c n k b b' w out z items nq kq s v o q = search (rules, said_lines, take_at)
+-- ---- an exchange
+abbrev written_of : Outcome → ℕ
+written_of (Command r) = r.written
+written_of (Run r) = r.written
 
--- ---- a list of calls
--- one call more
-pub calls_more : (asks : List Ask) (i : ℕ) (b b' b0 : Bus) (log log' : List Shown) (a : Ask) (x : Shown) → i < length asks → (d : Ask) → get_or asks i d ≡ a
-    → b' ≡ next b a → x ≡ report b a → log' ≡ log ++ x ∷ []
-    → closing b (drop i asks) ≡ closing b0 asks → log ++ reports b (drop i asks) ≡ reports b0 asks
-    → (closing b' (drop (i + 1) asks) ≡ closing b0 asks) × (log' ++ reports b' (drop (i + 1) asks) ≡ reports b0 asks)
-calls_more asks i b b' b0 log log' a x h d q s u l e f = grind (arith, common_steps)
+abbrev spoke : Bus → Ask → List ℕ
+spoke b (obeying t room) = (uttered room b t).says
+spoke b (serving t room) = answered b (served room b t)
 
-pub calls_all : (asks : List Ask) (i : ℕ) (b b0 : Bus) (log : List Shown) → length asks ≤ i
-    → closing b (drop i asks) ≡ closing b0 asks → log ++ reports b (drop i asks) ≡ reports b0 asks
-    → (b ≡ closing b0 asks) × (log ≡ reports b0 asks)
-calls_all asks i b b0 log h e f = grind (arith, common_steps)
+spoke_said : (b : Bus) (a : Ask) → spoke b a ≡ said (sheet b a)
+spoke_said b (obeying t room) = search (rules, said_lines)
+spoke_said b (serving t room) = said_lines b (served room b t)
+
+-- the call of x returned w and left out in its buffer
+pub made : (b : Bus) (x y : Exchange) (w : Outcome) (now out : List ℕ)
+    → y ≡ record { call = x.call; answers = with_items x.answers out; outcome = x.outcome } → now ≡ vec_items x.answers
+    → w ≡ outcome_of b (ask_of x) → out ≡ spoke b (ask_of x) ++ drop (written_of w) now
+    → ◌≡◌ {A = Exchange} (record { call = y.call; answers = y.answers; outcome = Some w }) (exchanged b x)
+made b x y w now out yq nq wq oq = search (rules, spoke_said)
+
+-- its answers fit into its buffer
+spoke_within : (b : Bus) (c : Call) (room : ℕ) → length (spoke b (asked c room)) ≤ room
+unfolding reply
+spoke_within b (Obey t) room = let few = worded_brief b (reading t.now) in grind arith
+spoke_within b (Serve t) room = taken_within room b (cut t.now)
+
+answered_one : (b : Bus) (x : Exchange) → Answered (said (sheet b (ask_of x))) x (exchanged b x)
+answered_one b x =
+    let says = said (sheet b (ask_of x)) in
+    let items = vec_items x.answers in
+    let fits = subst (λ ws. length ws ≤ length items) (spoke_said b (ask_of x)) (spoke_within b x.call (length items)) in
+    let ws = says ++ drop (length says) items in
+    let long : length ws ≡ vec_len x.answers = omega (arith, length-append says (drop (length says) items), length-drop (length says) items, fits, x.answers.ok.0) in
+    let written = with_items_is x.answers ws long in
+    record { call = refl; answers = written; room = ap length written ∙ long ∙ x.answers.ok.0 }
+
+-- ---- a list of exchanges
+all_answered : (b : Bus) (xs : List Exchange) → AllAnswered b xs (settled b xs)
+all_answered b [] = refl
+all_answered b (x ∷ xs) = (answered_one b x, all_answered (next b (ask_of x)) xs)
+
+-- one exchange more
+pub settled_more : (xs : List Exchange) (i : ℕ) (b b' : Bus) (d y : Exchange) (zs : List Exchange) (e : Bus) → i < length xs
+    → b' ≡ next b (ask_of (get_or xs i d)) → y ≡ exchanged b (get_or xs i d)
+    → closing b (map ask_of (drop i xs)) ≡ e → take i xs ++ settled b (drop i xs) ≡ zs
+    → (closing b' (map ask_of (drop (i + 1) (set xs i y))) ≡ e) × (take (i + 1) (set xs i y) ++ settled b' (drop (i + 1) (set xs i y)) ≡ zs)
+settled_more xs i b b' d y zs e h s u q f = grind (arith, common_steps)
+
+settled_all : (xs : List Exchange) (i : ℕ) (b : Bus) (zs : List Exchange) (e : Bus) → length xs ≤ i
+    → closing b (map ask_of (drop i xs)) ≡ e → take i xs ++ settled b (drop i xs) ≡ zs
+    → (b ≡ e) × (xs ≡ zs)
+settled_all xs i b zs e h q f = grind (arith, common_steps)
 
 -- ---- the calls as one list of commands
 abbrev commands : Bus → List Ask → List (List ℕ)
@@ -81,5 +122,13 @@ regrouped : (p : ℕ → Port) (asks : List Ask) (e : Bus) → e ≡ closing (si
 regrouped p asks e q m m' ok ok' alike boxes boxes' stands a low reach asks' same =
     own_affair p asks e q a (pile m' boxes') asks' ((λ i. stands i a) ∙ same_gauges m m' ok ok' alike boxes boxes' a a low low reach) same
 
-pub came : (p : ℕ → Port) (asks : List Ask) (e : Bus) (log : List Shown) → e ≡ closing (silent p) asks → log ≡ reports (silent p) asks → Came p asks e log
-came p asks e log s l = search (rules, own_affair, as_alone, gathers, same_gauges, regrouped)
+-- no exchange is left
+pub came : (p : ℕ → Port) (before xs : List Exchange) (i : ℕ) (b0 b : Bus) → b0 ≡ silent p → length xs ≤ i
+    → closing b (map ask_of (drop i xs)) ≡ closing b0 (map ask_of before) → take i xs ++ settled b (drop i xs) ≡ settled b0 before
+    → Came p before b xs
+came p before xs i b0 b q h e f =
+    let all = settled_all xs i b _ _ h e f in
+    let s = all.0 ∙ ap (λ z. closing z (map ask_of before)) q in
+    let l = all.1 ∙ ap (λ z. settled z before) q in
+    let w = subst (AllAnswered (silent p) before) (sym l) (all_answered (silent p) before) in
+    search (rules, own_affair, as_alone, gathers, same_gauges, regrouped)

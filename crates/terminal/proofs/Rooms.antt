@@ -15,7 +15,7 @@ pub uttered_long : (n : ℕ) (b : Bus) (t : List ℕ) → 1088 ≤ n → uttered
 uttered_long n b t h = search rules
 
 -- no answer is longer than 1,088 bytes
-worded_brief : (b : Bus) (h : Result Heard Fault) → length (worded b h).says ≤ 1088
+pub worded_brief : (b : Bus) (h : Result Heard Fault) → length (worded b h).says ≤ 1088
 worded_brief b h = search (rules, brief)
 
 -- one command is heeded with the first 1,088 bytes of a buffer for its answer

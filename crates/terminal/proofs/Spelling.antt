@@ -8,7 +8,7 @@ use Rattle.terminal.specs.declared.answers.Served.{Served}
 use Rattle.terminal.specs.Buses.{Bus, after, reply}
 use Rattle.terminal.specs.Serves.{headed, cut, taken, served, answered, spent, why, report_of, Spelled, Roomy, Stops, Serves}
 
-abbrev Plain : List ℕ → Type 0
+abbrev pub Plain : List ℕ → Type 0
 Plain t = AllByRecursion (λ b. plain b ≡ true) t
 
 -- ---- all the commands of a run are spelled in it, and no end character stands in what is left
@@ -18,12 +18,12 @@ headed_spelled b bs p ts h = search rules
 headed_left : (b : ℕ) (bs : List ℕ) → plain b ≡ true → (ts : List (List ℕ)) → Plain (drop (spent ts) bs) → Plain (drop (spent (headed b ts)) (b ∷ bs))
 headed_left b bs p ts h = search rules
 
-all_spelled : (run : List ℕ) → Spelled (cut run) run
+pub all_spelled : (run : List ℕ) → Spelled (cut run) run
 unfolding cut
 all_spelled [] = tt
 all_spelled (b ∷ bs) = let ih = all_spelled bs in search (rules, headed_spelled)
 
-left_plain : (run : List ℕ) → Plain (drop (spent (cut run)) run)
+pub left_plain : (run : List ℕ) → Plain (drop (spent (cut run)) run)
 unfolding cut
 left_plain [] = tt
 left_plain (b ∷ bs) = let e : drop (1 + spent (cut bs)) (b ∷ bs) ≡ drop (spent (cut bs)) bs = search rules in search (rules, headed_left, left_plain bs)
@@ -40,7 +40,7 @@ some_roomy room b [] = tt
 some_roomy room b (t ∷ ts) = let ih = some_roomy (room - length (reply b t).says) (after b t) ts in search rules
 
 -- ---- why serving stops
-all_plain : (r : List ℕ) → Plain r → prefix_len plain r ≡ length r
+pub all_plain : (r : List ℕ) → Plain r → prefix_len plain r ≡ length r
 all_plain [] h = refl
 all_plain (b ∷ bs) h = let ih = all_plain bs h.1 in search rules
 

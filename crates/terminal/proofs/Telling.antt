@@ -53,5 +53,6 @@ abbrev pub swept : ℕ → Bus → Result Heard Fault → Bus
 swept n b h = hearing (before b n) b h
 
 -- one turn of the loop
-pub swept_next : (b s s' : Bus) (h : Result Heard Fault) (n : ℕ) → s ≡ swept n b h → s' ≡ hearing (λ x. cond (eqb x n) (lets Broadcast (present (s.ports x))) None) s h → s' ≡ swept (n + 1) b h
-swept_next b s s' h n e f = search rules
+pub swept_next : (b s s' : Bus) (h : Result Heard Fault) (n a n' : ℕ) → a ≡ n → n' ≡ n + 1
+    → s ≡ swept n b h → s' ≡ hearing (λ x. cond (eqb x a) (lets Broadcast (present (s.ports x))) None) s h → s' ≡ swept n' b h
+swept_next b s s' h n a n' q r e f = search rules

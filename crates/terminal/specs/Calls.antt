@@ -1,12 +1,13 @@
 -- Calls of a terminal, what each does and returns, and the transcript of them all.
-use Rattle.std.specs.Prelude.{ℕ, cond, List, [], ◌∷◌, ◌++◌, vec_items, nat_lt}
+use Rattle.std.specs.Prelude.{ℕ, cond, List, [], ◌∷◌, ◌++◌, length, vec_items, Some, nat_lt}
+use Rattle.std.specs.Vec.{with_items_from}
 use Rattle.terminal.specs.declared.calls.Call.{Call}
 use Rattle.terminal.specs.declared.calls.Call.TheVariants.{Obey, Serve}
+use Rattle.terminal.specs.declared.calls.Exchange.{Exchange}
 use Rattle.terminal.specs.declared.calls.Outcome.{Outcome}
 use Rattle.terminal.specs.declared.calls.Outcome.TheVariants.{Command, Run}
-use Rattle.terminal.specs.declared.calls.Reply.{Reply}
-use Rattle.terminal.specs.Buses.{Bus, told, uttered, returned}
-use Rattle.terminal.specs.Serves.{served, afters, answered, report_of}
+use Rattle.terminal.specs.Buses.{Bus, uttered, returned}
+use Rattle.terminal.specs.Serves.{served, afters, report_of}
 use Rattle.terminal.specs.Transcripts.{Line, lines, said}
 
 -- a call: one command to obey or a byte run to serve, with the room for its answers
@@ -14,18 +15,13 @@ pub data Ask : Type 0 where
   obeying : List ℕ → ℕ → Ask
   serving : List ℕ → ℕ → Ask
 
-abbrev pub ask_of : Call → Ask
-ask_of (Obey t room) = obeying t.now room
-ask_of (Serve t room) = serving t.now room
+abbrev pub asked : Call → ℕ → Ask
+asked (Obey t) room = obeying t.now room
+asked (Serve t) room = serving t.now room
 
--- the room that a call has, and the same call with other room
-abbrev pub room_of : Call → ℕ
-room_of (Obey t room) = room
-room_of (Serve t room) = room
-
-abbrev pub ask_in : ℕ → Call → Ask
-ask_in room (Obey t r) = obeying t.now room
-ask_in room (Serve t r) = serving t.now room
+-- the call of an exchange has all of its buffer as room
+abbrev pub ask_of : Exchange → Ask
+ask_of x = asked x.call (length (vec_items x.answers))
 
 -- the commands that a call obeys: not one that is refused for its buffer, and of a run those that serving uses up
 abbrev pub executed : Bus → Ask → List (List ℕ)
@@ -37,20 +33,6 @@ abbrev pub outcome_of : Bus → Ask → Outcome
 outcome_of b (obeying t room) = Command (returned (uttered room b t))
 outcome_of b (serving t room) = Run (report_of b t (served room b t))
 
--- how many bytes it wrote
-abbrev pub written_of : Outcome → ℕ
-written_of (Command r) = r.written
-written_of (Run r) = r.written
-
--- the bus that it leaves, and the bytes that it writes
-abbrev pub left : Bus → Ask → Bus
-left b (obeying t room) = told room b t
-left b (serving t room) = afters b (served room b t)
-
-abbrev pub spoke : Bus → Ask → List ℕ
-spoke b (obeying t room) = (uttered room b t).says
-spoke b (serving t room) = answered b (served room b t)
-
 -- its lines of the transcript, and the bus after it
 abbrev pub sheet : Bus → Ask → List Line
 sheet b a = lines b (executed b a)
@@ -58,21 +40,19 @@ sheet b a = lines b (executed b a)
 abbrev pub next : Bus → Ask → Bus
 next b a = afters b (executed b a)
 
--- what is logged of a call: what it returned, and the bytes that it wrote, which are the answers of its lines
-pub record Shown : Type 0 where
-  pub outcome : Outcome
-  pub bytes : List ℕ
+-- An exchange once its call was made: the same call, what it returned, and its buffer, over whose first bytes the
+-- answers of its lines were written.
+abbrev pub exchanged : Bus → Exchange → Exchange
+exchanged b x = record {
+  call = x.call;
+  answers = with_items_from x.answers 0 (said (sheet b (ask_of x)));
+  outcome = Some (outcome_of b (ask_of x));
+}
 
-abbrev pub shown : Reply → Shown
-shown r = record { outcome = r.outcome; bytes = vec_items r.bytes }
-
-abbrev pub report : Bus → Ask → Shown
-report b a = record { outcome = outcome_of b a; bytes = said (sheet b a) }
-
--- all calls in order: their log, the bus after them, and the transcript
-abbrev pub reports : Bus → List Ask → List Shown
-reports b [] = []
-reports b (a ∷ rest) = report b a ∷ reports (next b a) rest
+-- all exchanges in order, the bus after all calls, and their transcript
+abbrev pub settled : Bus → List Exchange → List Exchange
+settled b [] = []
+settled b (x ∷ rest) = exchanged b x ∷ settled (next b (ask_of x)) rest
 
 abbrev pub closing : Bus → List Ask → Bus
 closing b [] = b

@@ -1,5 +1,5 @@
 -- The laws over whole runs.
-use Rattle.std.specs.Prelude.{◌≡◌, ℕ, ◌<◌, cond, List, [], ◌∷◌, Ok, Err, Result, ◌==◌}
+use Rattle.std.specs.Prelude.{◌≡◌, ℕ, ◌<◌, cond, List, [], ◌∷◌, ◌++◌, map, length, drop, vec_items, Ok, Err, Result, ◌==◌}
 use Rattle.fault.specs.declared.faults.Fault.{Fault}
 use Rattle.bank.specs.Ports.{Port}
 use Rattle.command.specs.declared.orders.Heard.{Heard}
@@ -12,9 +12,10 @@ use Rattle.scale.specs.declared.modes.Mode.TheVariants.{Selected, Broadcast}
 use Rattle.scale.specs.declared.state.State.{State}
 use Rattle.scale.specs.Hearing.{hears}
 use Rattle.scale.specs.States.{fresh}
+use Rattle.terminal.specs.declared.calls.Exchange.{Exchange}
 use Rattle.terminal.specs.Buses.{Bus, silent}
-use Rattle.terminal.specs.Transcripts.{Line, heard, voiced}
-use Rattle.terminal.specs.Calls.{Ask, Shown, reports, closing, transcript}
+use Rattle.terminal.specs.Transcripts.{Line, said, heard, voiced}
+use Rattle.terminal.specs.Calls.{Ask, ask_of, sheet, next, settled, closing, transcript}
 
 -- ---- a scale's answers are its own affair
 -- the scale a answers each command that reaches it alike in two transcripts, and ends alike on two buses: all that it
@@ -78,12 +79,26 @@ Regrouped p asks e =
     → heard a (transcript (silent p) asks) ≡ heard a (transcript (silent (pile m' boxes')) asks')
     → SameFate a e (transcript (silent p) asks) (closing (silent (pile m' boxes')) asks') (transcript (silent (pile m' boxes')) asks')
 
--- ---- what a run of calls over the ports p has come to: its end and its log, and the laws
-pub record Came (p : ℕ → Port) (asks : List Ask) (e : Bus) (log : List Shown) : Type 0 where
-  pub state : e ≡ closing (silent p) asks
-  pub logged : log ≡ reports (silent p) asks
-  pub own : OwnAffair p asks e
-  pub alone : AsAlone p asks e
+-- ---- what a call leaves in its exchange
+-- its answers stand at the buffer's front; the call, the buffer's length and every byte past the answers are as before
+pub record Answered (says : List ℕ) (x y : Exchange) : Type 0 where
+  pub call : y.call ≡ x.call
+  pub answers : vec_items y.answers ≡ says ++ drop (length says) (vec_items x.answers)
+  pub room : length (vec_items y.answers) ≡ length (vec_items x.answers)
+
+-- each exchange has the answers of its own lines
+abbrev pub AllAnswered : Bus → List Exchange → List Exchange → Type 0
+AllAnswered b [] ys = ys ≡ []
+AllAnswered b (x ∷ xs) [] = ⊥
+AllAnswered b (x ∷ xs) (y ∷ ys) = Answered (said (sheet b (ask_of x))) x y × AllAnswered (next b (ask_of x)) xs ys
+
+-- ---- what the calls of exchanges over the ports p have come to: the end, the exchanges after them, and the laws
+pub record Came (p : ℕ → Port) (before : List Exchange) (e : Bus) (after : List Exchange) : Type 0 where
+  pub state : e ≡ closing (silent p) (map ask_of before)
+  pub exchanges : after ≡ settled (silent p) before
+  pub answers : AllAnswered (silent p) before after
+  pub own : OwnAffair p (map ask_of before) e
+  pub alone : AsAlone p (map ask_of before) e
   pub gathers : Gathers
   pub regroups : SameGauges
-  pub regrouped : Regrouped p asks e
+  pub regrouped : Regrouped p (map ask_of before) e

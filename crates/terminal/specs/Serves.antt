@@ -1,5 +1,5 @@
 -- What becomes of a byte run.
-use Rattle.std.specs.Prelude.{◌≡◌, ℕ, ◌+◌, ◌-◌, ◌<◌, ◌≤◌, true, false, cond, List, [], ◌∷◌, ◌++◌, length, drop, Ok, Err, Result, ◌==◌, ◌≢◌, nat_lt}
+use Rattle.std.specs.Prelude.{◌≡◌, ℕ, ◌+◌, ◌-◌, ◌*◌, ◌<◌, ◌≤◌, true, false, cond, List, [], ◌∷◌, ◌++◌, length, drop, Ok, Err, Result, ◌==◌, ◌≢◌, nat_lt}
 use Rattle.std.specs.Borrow.{Bor}
 use Rattle.std.specs.List.{prefix_len, AllByRecursion}
 use Rattle.fault.specs.declared.faults.Fault.{Fault}
@@ -88,3 +88,12 @@ pub record Serves (room : ℕ) (b : Bus) (run : List ℕ) (ts : List (List ℕ))
   pub spelled : Spelled ts run
   pub roomy : Roomy room b ts
   pub stops : Stops r.stopped (drop r.used run) (room - r.written)
+
+-- ---- the law of room
+-- No answer is longer than 272 bytes for each byte of its command, its end character counted. So a run with 272 bytes
+-- of room for each of its bytes, and 1,088 more, never stops for want of room: each command that has an end character
+-- is obeyed.
+pub record NeverShort (room : ℕ) (b : Bus) (run : List ℕ) (r : Served) : Type 0 where
+  pub answers : (t : List ℕ) → length (reply b t).says ≤ 272 * (length t + 1)
+  pub obeys : 272 * length run + 1088 ≤ room → served room b run ≡ cut run
+  pub stops : 272 * length run + 1088 ≤ room → r.stopped ≢ ShortBuffer

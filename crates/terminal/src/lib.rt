@@ -10,6 +10,6 @@ mod serving;
 mod terminal;
 
 pub use answers::{Obeyed, ROOM, Served, Stop};
-pub use calls::{Call, Outcome, Ran, Reply};
+pub use calls::{Call, Exchange, Outcome};
 pub use running::run;
 pub use terminal::Terminal;

@@ -61,8 +61,8 @@ impl<B: GaugeBank> Terminal<B> {
             return SILENCE;
         }
         let mut unsaid = [0; ROOM];
-        for number in 0..SCALES as u8 {
-            self.tell(Mode::Broadcast, Address { number }, heard, &mut unsaid);
+        for address in Address::all() {
+            self.tell(Mode::Broadcast, address, heard, &mut unsaid);
         }
         SILENCE
     }

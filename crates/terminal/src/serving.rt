@@ -1,7 +1,7 @@
 // Serving a byte run.
 ghost use Rattle.std.specs.Prelude.{◌≡◌, ◌≤◌, ◌++◌, length, drop};
 ghost use Rattle.terminal.specs.Buses.{bus};
-ghost use Rattle.terminal.specs.Serves.{due, due_of, served, afters, answered, report_of, Serves};
+ghost use Rattle.terminal.specs.Serves.{due, due_of, served, afters, answered, report_of, Serves, NeverShort};
 
 use crate::answers::{ROOM, Served, Stop};
 use crate::terminal::Terminal;
@@ -30,6 +30,7 @@ impl<B: GaugeBank> Terminal<B> {
         ensures buffer { answers.new ≡ answered (bus B.shows self.old) (served (length answers.old) (bus B.shows self.old) run.now) ++ drop result.written answers.old }
         ensures within { result.written ≤ length answers.old }
         ensures law { Serves (length answers.old) (bus B.shows self.old) run.now (served (length answers.old) (bus B.shows self.old) run.now) result }
+        ensures room { NeverShort (length answers.old) (bus B.shows self.old) run.now result }
     {
         let mut used = 0;
         let mut written = 0;

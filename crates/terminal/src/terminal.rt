@@ -6,7 +6,7 @@ use scale::Scale;
 pub(crate) const SCALES: usize = 32;
 
 // A bank of gauges, the 32 scales, each over the port of its own address, and who listens.
-// Kept: (c) contracts say `bus B.shows`: an `impl Model` whose value is the bus was tried; its ports are a function, which no value can keep.
+// Contracts speak of it as `bus B.shows`, and not by an `impl Model`, since the ports of a bus are a function, which no such value can hold.
 #[derive(Drop)]
 pub struct Terminal<B> {
     pub(crate) bank: B,

@@ -11,5 +11,11 @@ returns-in-Ok-Select-clause-state g c =
     let k : c.args.heard ≡ Ok (Select c.in-Ok-Select.field-0-0) = search rules in
     select_leaves b c.in-Ok-Select.field-0-0 ∙ ap (hearing (λ x. listens everyone x (present (b.ports x))) b) (sym k)
 
-pub loop-number-preserved : goal.loop-number-preserved
-loop-number-preserved g c = swept_next _ _ _ _ _ c.loop-number.invariant c.tell.ensures.state
+pub loop-address-preserved : goal.loop-address-preserved
+loop-address-preserved g c =
+    let l = c.loop-address in
+    let step = c.in-Some.ensures.steps in
+    record {
+      last = step.2 ∙ l.invariant.last;
+      so_far = swept_next _ (bus g.B.GaugeBank.shows l.self) _ _ l.address-iterator.next _ _ step.0 step.1 l.invariant.so_far c.tell.ensures.state;
+    }

@@ -4,6 +4,7 @@ use Rattle.terminal.specs.Buses.{bus}
 use Rattle.terminal.specs.Serves.{served, why}
 use Rattle.terminal.proofs.Splits.{due_ok, due_stop}
 use Rattle.terminal.proofs.Spelling.{served_so}
+use Rattle.terminal.proofs.Ample.{never_short}
 use Rattle.terminal.proofs.Turns.{going_end, going_more}
 use Rattle.terminal.proofs.terminal.Terminal.serve.Goals as goal
 
@@ -13,7 +14,7 @@ returns-in-Err g c =
     let h = due_stop _ _ (bus g.B.GaugeBank.shows l.self) _ c.in-Err.ensures in
     let e = take_rest c.args.run.now l.used in
     let all = going_end _ _ _ _ _ _ _ l.invariant (subst (λ r. served (length l.answers - l.written) (bus g.B.GaugeBank.shows l.self) r ≡ []) e h.1) _ (h.0 ∙ ap why e) in
-    record { state = all.0; value = all.1; buffer = all.2; within = all.3; law = served_so _ (bus g.B.GaugeBank.shows c.args.self.now) c.args.run.now _ all.1 }
+    record { state = all.0; value = all.1; buffer = all.2; within = all.3; law = served_so _ (bus g.B.GaugeBank.shows c.args.self.now) c.args.run.now _ all.1; room = never_short _ (bus g.B.GaugeBank.shows c.args.self.now) c.args.run.now _ all.1 }
 
 pub loop-stopped-preserved : goal.loop-stopped-preserved
 loop-stopped-preserved g c =
