@@ -1,15 +1,19 @@
 -- Gauges, dials and joins set one after another.
-use Rattle.std.proofs.Common.{◌≡◌, ℕ, zero, suc, ◌+◌, ◌-◌, ◌≢◌, false, ⊎_elim, ◌<◌, ◌≤◌, List, [], ◌∷◌, ◌++◌, length, map, take, set, get_or, ℤ, pos, Some, cond, eqb, min, replicate, sym, refl, ap, subst, ◌∙◌, arith, add-one, take-suc-set}
+use Rattle.std.proofs.Common.{◌≡◌, ℕ, zero, suc, ◌+◌, ◌-◌, ◌≢◌, false, ⊎_elim, ◌<◌, ◌≤◌, List, [], ◌∷◌, ◌++◌, length, map, take, set, get_or, ℤ, pos, Some, cond, eqb, replicate, sym, refl, ap, subst, ◌∙◌, arith, add-one, take-suc-set, Result, Ok, drop}
 use Rattle.std.proofs.lemmas.Bool.{ne_eqb, cases_eq}
 use Rattle.std.proofs.lemmas.Bool.Decides.{nat_tests}
 use Rattle.std.proofs.lemmas.Grind.{common_steps}
+use Rattle.std.proofs.lemmas.List.{length-map, take_all}
 use Rattle.bank.specs.Dials.{set_at, still_at}
 use Rattle.bank.specs.Gauges.{fits, fit_at, fitted, gauged}
 use Rattle.bank.specs.Records.{due, due_of}
-use Rattle.bank.specs.declared.record.Record.{Record}
 use Rattle.junction.specs.Piles.{from, pile}
 use Rattle.junction.specs.declared.joins.Join.{Join}
-use Rattle.linked.specs.Halls.{gauges_to, dials_to, lined, row, boxes_of, hall, recorded, taped_to}
+use Rattle.std.specs.Result.{result_and}
+use Rattle.linked.specs.Halls.{gauges_to, dials_to, lined, row, joined, in_range, hall, recorded, on_tape, spoken, played}
+use Rattle.fault.specs.declared.causes.Cause.{Cause}
+use Rattle.bank.specs.Fitting.{mapped_ok}
+use Rattle.bank.specs.Ports.{Port}
 
 none_at : (k : ℕ) → fits k ≡ gauges_to 0 k
 none_at k = grind (arith, nat_tests)
@@ -50,37 +54,48 @@ row_more js n h e =
     ∙ ap (λ (q : ℕ). row n ++ (to_first q ∷ [])) (omega arith)
     ∙ sym (from_more 1 n) ∙ ap row (sym (add-one n))
 
--- four boxes and more are four
-boxes_deep : (b p : ℕ) → 4 ≤ b → boxes_of b p ≡ boxes_of 4 p
-boxes_deep b p h =
-    let some : eqb b 0 ≡ false = ne_eqb b 0 (λ e. omega arith) in
-    let four : min b 4 ≡ 4 = omega arith in
-    λ i. cond (some i) [] (row p ∷ replicate (four i - 1) [])
-
-pub hall_deep : (b p : ℕ) (ds : List ℤ) → 4 ≤ b → hall b p ds ≡ hall 4 p ds
-hall_deep b p ds h = ap (pile (lined ds)) (boxes_deep b p h)
-
 -- ---- records
-recorded_take : (n : ℕ) (ds : List ℤ) → take n (recorded (take n ds)) ≡ recorded (take n ds)
-recorded_take zero ds = refl
-recorded_take (suc n) [] = refl
-recorded_take (suc n) (d ∷ ds) = ap (λ (rs : List Record). record { port = 1; digits = d } ∷ rs) (recorded_take n ds)
-
 due_one : (ds : List ℤ) → due 1 (recorded ds) ≡ ds
 due_one [] = refl
 due_one (d ∷ ds) = ap (λ (xs : List ℤ). d ∷ xs) (due_one ds)
 
-module _ (n : ℕ) (ds : List ℤ) where
-  taped_one : fitted (fit_at fits 1 1000) (due_of (take n (recorded (take n ds)))) 1 ≡ taped_to n ds 1
-  taped_one = ap (gauged (Some 1000)) (ap (due 1) (recorded_take n ds) ∙ due_one (take n ds))
+-- all of them count
+pub recorded_all : (ds : List ℤ) → length ds ≤ 65535 → take 65535 (recorded ds) ≡ recorded ds
+recorded_all ds h = take_all 65535 (recorded ds) (rw length-map h)
 
-  taped_at : (p : ℕ) → fitted (fit_at fits 1 1000) (due_of (take n (recorded (take n ds)))) p ≡ taped_to n ds p
-  taped_at p =
+module _ (ds : List ℤ) where
+  tape_at : (p : ℕ) → fitted (fit_at fits 1 1000) (due_of (recorded ds)) p ≡ on_tape ds p
+  tape_at p =
       ⊎_elim
-      (λ (e : p ≡ 1). subst (λ (x : ℕ). fitted (fit_at fits 1 1000) (due_of (take n (recorded (take n ds)))) x ≡ taped_to n ds x) (sym e) taped_one)
+      (λ (e : p ≡ 1). subst (λ (x : ℕ). fitted (fit_at fits 1 1000) (due_of (recorded ds)) x ≡ on_tape ds x) (sym e) (ap (gauged (Some 1000)) (due_one ds)))
       (λ (e : p ≢ 1). let b = ne_eqb p 1 e in rw b refl)
       (cases_eq p 1)
 
-  -- a recording of n digits at port 1, with a gauge there
-  pub taped_is : fitted (fit_at fits 1 1000) (due_of (take n (recorded (take n ds)))) ≡ taped_to n ds
-  taped_is = λ i. λ p. taped_at p i
+  -- a recording of these digits at port 1, with a gauge there
+  pub tape_is : fitted (fit_at fits 1 1000) (due_of (recorded ds)) ≡ on_tape ds
+  tape_is = λ i. λ p. tape_at p i
+
+-- ---- the hall of boxes on dials
+pub few_boxes : (b p n : ℕ) → in_range b p n ≡ Ok tt → b ≤ 4
+few_boxes b p n e = grind (arith, nat_tests)
+
+hall_of : (b p : ℕ) (ds : List ℤ) (one : ℕ → Port) → b ≢ 0 → in_range b p (length ds) ≡ Ok tt → joined (lined ds) p ≡ Ok one → hall b p ds ≡ Ok (pile one (replicate (b - 1) []))
+hall_of b p ds one s r j =
+    let some : eqb b 0 ≡ false = ne_eqb b 0 s in
+    λ i. result_and (r i) (cond (some i) (Ok (lined ds)) (mapped_ok (λ (m : ℕ → Port). pile m (replicate (b - 1) [])) (j i)))
+
+pub hall_at : (k b p : ℕ) (ds : List ℤ) (one : ℕ → Port) → b ≡ k → b ≢ 0 → in_range b p (length ds) ≡ Ok tt → joined (lined ds) p ≡ Ok one → hall b p ds ≡ Ok (pile one (replicate (k - 1) []))
+hall_at k b p ds one e s r j = subst (λ (x : ℕ). hall b p ds ≡ Ok (pile one (replicate (x - 1) []))) e (hall_of b p ds one s r j)
+
+-- ---- what is answered where there is a hall
+
+-- serving over a bank that shows m, in the hall h of that meaning
+pub record InHall (h : Result (ℕ → Port) Cause) (run before after : List ℕ) (n : ℕ) : Type 0 where
+  pub answer : ◌≡◌ {A = Result ℕ Cause} (Ok n) (mapped_ok (λ m. length (spoken m (length before) run)) h)
+  pub buffer : after ≡ played h (length before) run ++ drop n before
+
+pub in_hall : (h : Result (ℕ → Port) Cause) (m m' : ℕ → Port) (run before after : List ℕ) (n : ℕ) → m ≡ m' → h ≡ Ok m' → n ≡ length (spoken m (length before) run) → after ≡ spoken m (length before) run ++ drop n before → InHall h run before after n
+in_hall h m m' run before after n e there count buffer =
+    let shown = ap (λ (x : ℕ → Port). spoken x (length before) run) e in
+    subst (λ (x : Result (ℕ → Port) Cause). InHall x run before after n) (sym there)
+    (record { answer = λ i. Ok ((count ∙ ap (λ (bs : List ℕ). length bs) shown) i); buffer = buffer ∙ ap (λ (bs : List ℕ). bs ++ drop n before) shown })

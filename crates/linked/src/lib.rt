@@ -2,5 +2,6 @@
 #![tactic(auto)]
 
 mod serving;
+mod setting_up;
 
 pub use serving::{served, weighing_serve_dials, weighing_serve_recording};

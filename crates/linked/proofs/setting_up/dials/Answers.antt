@@ -5,7 +5,7 @@ use Rattle.bank.specs.Gauges.{fit_at}
 use Rattle.bank.specs.declared.dials.DialTable.{DialTable}
 use Rattle.linked.specs.Halls.{dials_to}
 use Rattle.linked.proofs.Lines.{none_fitted, one_fitted, none_set, one_set}
-use Rattle.linked.proofs.serving.dials.Goals as goal
+use Rattle.linked.proofs.setting_up.dials.Goals as goal
 
 pub loop-port-init : goal.loop-port-init
 loop-port-init c = record {
@@ -15,7 +15,7 @@ loop-port-init c = record {
 
 pub loop-port-preserved : goal.loop-port-preserved
 loop-port-preserved c =
-    let few : c.loop-port.port < 32 = omega (arith, c.loop-port-test.true, c.min-port-end.ensures) in
+    let few : c.loop-port.port < 32 = omega (arith, c.loop-port-test.true, c.requires) in
     let ds = c.args.digits.now in
     let n = c.loop-port.port in
     let fits : SFits w32 (get_or ds c.from.result (pos 0)) = search rules in

@@ -1,6 +1,6 @@
 use Rattle.std.proofs.Common.{◌≡◌, length, take}
 use Rattle.linked.specs.Halls.{recorded}
-use Rattle.linked.proofs.serving.write_down.Given as goal
+use Rattle.linked.proofs.setting_up.write_down.Given as goal
 
 -- the digits before this place are written down
 abbrev pub invariant-loop-i : goal.invariant-loop-i

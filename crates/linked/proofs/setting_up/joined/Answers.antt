@@ -1,6 +1,6 @@
 use Rattle.std.proofs.Common.{◌+◌, ℕ, take, set, ap, ◌∙◌, refl, arith, length-set}
 use Rattle.linked.proofs.Lines.{row_more}
-use Rattle.linked.proofs.serving.joined.Goals as goal
+use Rattle.linked.proofs.setting_up.joined.Goals as goal
 
 pub loop-port-init : goal.loop-port-init
 loop-port-init g c = record { so_far = refl; many = refl }
