@@ -1,9 +1,8 @@
 // Plays the script of a hall that standard input holds.
 #![tactic(auto)]
 
-use halls::play;
 use std::io;
 
 fn main(rt: HostRuntime) -> io::Result<()> {
-    play(&rt)
+    halls::play(rt.alloc(), rt.stdin(), &mut rt.stdout())
 }

@@ -4,3 +4,10 @@ mod ReadBack
 mod AskedFor
 mod Lines
 mod Parting
+mod Turns
+mod Replying
+mod Ordering
+mod Staging
+mod Ascii
+mod Basing
+mod Played

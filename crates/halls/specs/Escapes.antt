@@ -1,7 +1,7 @@
 -- Bytes as printable text, in both directions.
 use Rattle.std.specs.Prelude.{◌≡◌, ℕ, ◌+◌, ◌-◌, ◌*◌, ◌/◌, ◌%◌, ◌<◌, Bool, cond, ◌&&◌, List, [], ◌∷◌, ◌++◌, Some, None, Option, ◌==◌, nat_le, nat_lt}
 use Rattle.std.specs.Option.{option_map, option_to_list}
-use Rattle.std.specs.List.{AllByRecursion}
+use Rattle.std.specs.List.{AllByRecursion, flat_map}
 use Rattle.halls.specs.declared.spelling.Spelling.{Spelling}
 use Rattle.halls.specs.declared.spelling.Spelling.TheVariants.{Itself, Letter, Digits}
 use Rattle.halls.specs.declared.escapes.Wanted.{Wanted}
@@ -28,8 +28,7 @@ text_of (Digits h l) = 92 ∷ 120 ∷ h ∷ l ∷ []
 
 -- the text that stands for bytes
 abbrev pub escaped : List ℕ → List ℕ
-escaped [] = []
-escaped (b ∷ bs) = text_of (spelled b) ++ escaped bs
+escaped bs = flat_map (λ b. text_of (spelled b)) bs
 
 -- ---- from text to bytes
 -- the byte that stands behind a backslash as a letter

@@ -1,10 +1,11 @@
-pub mod Beneath
 pub mod Stages
 pub mod Order
 pub mod Words
 pub mod Escapes
-pub mod Told
 pub mod Verbs
 pub mod Lines
 pub mod Scripts
+pub mod Said
+pub mod Bases
 pub mod Stands
+pub mod Replies

@@ -1,5 +1,5 @@
 -- Where each request of a script belongs.
-use Rattle.std.specs.Prelude.{ℕ, Bool, true, false, cond, Some, None, Ok, Err, Option, Result, nat_le}
+use Rattle.std.specs.Prelude.{Bool, true, false, cond, Some, None, Ok, Err, Option, Result, nat_le}
 use Rattle.halls.specs.declared.stages.Stage.{Stage}
 use Rattle.halls.specs.declared.stages.Stage.TheVariants.{Opening, Fitting, FirstBox, SecondBox, ThirdBox, FourthBox, Asking, Talking}
 use Rattle.halls.specs.declared.requests.Kind.{Kind}
@@ -8,7 +8,6 @@ use Rattle.halls.specs.declared.requests.Reason.{Reason}
 use Rattle.halls.specs.declared.requests.Reason.TheVariants.{OutOfOrder, OtherBank}
 use Rattle.halls.specs.declared.requests.Request.{Request}
 use Rattle.halls.specs.declared.requests.Request.TheVariants.{Bank, Fit, Set, Record, Join, Gauges, Waiting, Take, Obey, Serve, Split}
-use Rattle.halls.specs.declared.script.Step.{Step}
 use Rattle.halls.specs.Stages.{rank}
 
 -- what the opening request leaves is the fitting
@@ -62,7 +61,3 @@ suited (Take p) kind = true
 suited (Obey t) kind = true
 suited (Serve t) kind = true
 suited (Split bs) kind = true
-
--- where the stage of a step stands among the stages
-abbrev pub step_rank : Step → ℕ
-step_rank s = rank s.stage

@@ -1,7 +1,7 @@
 -- What a script says: its lines read, and put in order.
-use Rattle.std.specs.Prelude.{ℕ, ◌+◌, Bool, true, cond, List, [], ◌∷◌, ◌++◌, map, Some, None, Ok, Err, Option, Result, ◌==◌, vec_items}
+use Rattle.std.specs.Prelude.{ℕ, ◌+◌, ◌≤◌, Bool, true, cond, List, [], ◌∷◌, ◌++◌, map, Some, None, Ok, Err, Option, Result, ◌==◌, vec_items}
 use Rattle.std.specs.Result.{result_unwrap_or}
-use Rattle.std.specs.List.{slice_split, enumerate_from}
+use Rattle.std.specs.List.{slice_split, enumerate_from, AllByRecursion}
 use Rattle.bank.specs.declared.record.Record.{Record as BankRecord}
 use Rattle.halls.specs.declared.stages.Stage.{Stage}
 use Rattle.halls.specs.declared.stages.Stage.TheVariants.{Opening, Talking}
@@ -12,6 +12,7 @@ use Rattle.halls.specs.declared.requests.Request.{Request}
 use Rattle.halls.specs.declared.requests.Request.TheVariants.{Bank, Record}
 use Rattle.halls.specs.declared.script.Step.{Step}
 use Rattle.halls.specs.declared.script.Script.{Script}
+use Rattle.halls.specs.Stages.{rank}
 use Rattle.halls.specs.Order.{entered, stage_of, suited}
 use Rattle.halls.specs.Lines.{Asked, Plain, Obeying, Serving, Splitting, passed, request_of, request_seen, idle}
 
@@ -94,3 +95,8 @@ lines_of t = enumerate_from 0 (slice_split (λ b. b == 10) t)
 -- a script's course, from its text
 abbrev pub script_of : List ℕ → Course
 script_of t = lines_added (record { kind = Dials; records = []; steps = []; stage = Opening }) (lines_of t)
+
+-- the law of the order: the stages of steps do not go back
+abbrev pub Ordered : List Met → Type 0
+Ordered [] = Unit {0}
+Ordered (m ∷ ms) = AllByRecursion (λ n. rank m.stage ≤ rank n.stage) ms × Ordered ms

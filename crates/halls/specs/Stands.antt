@@ -1,85 +1,100 @@
--- What each stand answers to a request, and what it is after it: the bank beneath, a box, the terminal.
-use Rattle.std.specs.Prelude.{◌≡◌, ℕ, List, Some, None, Ok, Err, Option, Result, vec_items}
-use Rattle.std.specs.Option.{option_map}
+-- Who answers the requests of each stage, what each answers, and what it is after: the bank beneath, a box, the topmost bank, the terminal.
+use Rattle.std.specs.Prelude.{ℕ, List, length, Some, None, Ok, Err, Option, Result}
+use Rattle.std.specs.Option.{unwrap_or}
 use Rattle.fault.specs.declared.faults.Fault.{Fault}
-use Rattle.bank.specs.Ports.{Port}
-use Rattle.bank.specs.Gauges.{refitted, fit_at}
-use Rattle.bank.specs.Dials.{Setting, set_at, placed}
+use Rattle.bank.specs.declared.reading.Reading.{Reading}
+use Rattle.bank.specs.Ports.{Port, gauges_at, waiting_at, first_at, rest_at}
+use Rattle.bank.specs.Gauges.{refitted}
 use Rattle.command.specs.Cuts.{cut_of}
 use Rattle.junction.specs.declared.feeds.Feeds.{Feeds}
-use Rattle.junction.specs.Gather.{below_after}
-use Rattle.terminal.specs.Buses.{Bus, Word, told, uttered, returned}
+use Rattle.junction.specs.Feeding.{own}
+use Rattle.junction.specs.Gather.{boxed}
+use Rattle.junction.specs.Joins.{joining, rejoined}
+use Rattle.terminal.specs.Buses.{Bus, silent, told, uttered, Word}
 use Rattle.terminal.specs.Serves.{served, afters, answered, report_of}
-use Rattle.halls.specs.declared.answers.Answer.{Answer}
-use Rattle.halls.specs.declared.answers.Answer.TheVariants.{Done, Refused, Faulty, Cut, Obeying, Serving}
 use Rattle.halls.specs.declared.requests.Reason.TheVariants.{OutOfOrder, OtherBank}
-use Rattle.halls.specs.declared.requests.Request.{Request}
-use Rattle.halls.specs.declared.requests.Request.TheVariants.{Bank, Fit, Set, Record, Obey, Serve, Split, Take}
-use Rattle.halls.specs.Told.{told_done, box_tells}
+use Rattle.halls.specs.declared.requests.Request.TheVariants.{Bank, Fit, Set, Record, Join, Gauges, Waiting, Take}
+use Rattle.halls.specs.Lines.{Asked, Plain, Obeying, Serving, Splitting}
+use Rattle.halls.specs.Said.{Said, Fine, Declined, Faulted, Counted, Weighed, Parted, Obeyed, Ran}
+use Rattle.halls.specs.Bases.{Base, base_ports, refit, setting_told, reset}
 
--- ---- requests of any stage, and of another
-abbrev pub CutsAs : Result (List ℕ × ℕ) Fault → Answer → Type 0
-CutsAs (Ok p) (Cut n bs) = (n ≡ p.1) × (vec_items bs ≡ p.0)
-CutsAs (Ok p) _ = ⊥
-CutsAs (Err f) a = a ≡ Faulty f
+-- a box is told by the ports of the bank that it stands on, and by its feeding map
+pub data Stand : Type 0 where
+  OfBase : Base → Stand
+  OfBox : (ports : ℕ → Port) (feeds : Feeds) → Stand
+  OfTop : (ports : ℕ → Port) → Stand
+  OfTerminal : Bus → Stand
+
+-- what its ports show to a bank or a terminal that stands on it
+abbrev pub shown : Stand → ℕ → Port
+shown (OfBase b) = base_ports b
+shown (OfBox m fs) = boxed fs m
+shown (OfTop m) = m
+shown (OfTerminal b) = b.ports
+
+-- a new box and a new terminal
+abbrev pub new_box : (ℕ → Port) → Stand
+new_box m = OfBox m own
+
+abbrev pub new_terminal : (ℕ → Port) → Stand
+new_terminal m = OfTerminal (silent m)
+
+-- ---- what results are told as
+abbrev pub done_said : Result (Unit {0}) Fault → Said
+done_said (Ok x) = Fine
+done_said (Err f) = Faulted f
+
+abbrev pub count_said : Result ℕ Fault → Said
+count_said (Ok n) = Counted n
+count_said (Err f) = Faulted f
+
+abbrev pub taken_said : Result Reading Fault → Said
+taken_said (Ok x) = Weighed x
+taken_said (Err f) = Faulted f
+
+abbrev pub cut_said : Result (List ℕ × ℕ) Fault → Said
+cut_said (Ok p) = Parted p.1 p.0
+cut_said (Err f) = Faulted f
+
+-- a bank with no dials knows no setting
+abbrev pub set_said : Option (Result (Unit {0}) Fault) → Said
+set_said None = Declined OtherBank
+set_said (Some r) = done_said r
+
+abbrev pub word_said : Word → Said
+word_said w = Obeyed (length w.says) w.fault w.says
+
+abbrev pub run_said : Bus → List ℕ → List (List ℕ) → Said
+run_said b run ts = Ran (report_of b run ts) (answered b ts)
+
+-- ---- what each stand answers to a request of its own
+abbrev pub own_answer : Stand → Asked → Option Said
+own_answer (OfBase b) (Plain (Bank k)) = Some Fine
+own_answer (OfBase b) (Plain (Record x)) = Some Fine
+own_answer (OfBase b) (Plain (Fit p f)) = Some (done_said (refitted p f))
+own_answer (OfBase b) (Plain (Set p d c)) = Some (set_said (setting_told b p))
+own_answer (OfBox m fs) (Plain (Join s j)) = Some (done_said (joining m fs j.below j.above))
+own_answer (OfTop m) (Plain (Gauges p)) = Some (count_said (gauges_at m p))
+own_answer (OfTop m) (Plain (Waiting p)) = Some (count_said (waiting_at m p))
+own_answer (OfTop m) (Plain (Take p)) = Some (taken_said (first_at m p))
+own_answer (OfTerminal b) (Obeying n bs) = Some (word_said (uttered n b bs))
+own_answer (OfTerminal b) (Serving n bs) = Some (run_said b bs (served n b bs))
+own_answer s a = None
 
 -- a split is answered anywhere; what is not a stand's own is out of order
-abbrev pub OthersTell : Request → Answer → Type 0
-OthersTell (Split bs) a = CutsAs (cut_of (vec_items bs)) a
-OthersTell _ a = a ≡ Refused OutOfOrder
+abbrev pub any_answer : Asked → Said
+any_answer (Splitting bs) = cut_said (cut_of bs)
+any_answer a = Declined OutOfOrder
 
--- ---- a bank whose dials are set to ts
--- a bank with no dials knows no setting
-abbrev pub told_set : Option (Result (Unit {0}) Fault) → Answer
-told_set None = Refused OtherBank
-told_set (Some r) = told_done r
+abbrev pub answer_of : Stand → Asked → Said
+answer_of s a = unwrap_or (own_answer s a) (any_answer a)
 
-abbrev pub BankTells : Option (ℕ → Setting) → Request → Answer → Type 0
-BankTells ts (Bank k) a = a ≡ Done
-BankTells ts (Record x) a = a ≡ Done
-BankTells ts (Fit p f) a = a ≡ told_done (refitted p f)
-BankTells ts (Set p d c) a = a ≡ told_set (option_map (λ s. placed p) ts)
-BankTells ts r a = OthersTell r a
-
--- only a fit alters its corner factors
-abbrev pub bank_factors : (ℕ → Option ℕ) → Request → ℕ → Option ℕ
-bank_factors fs (Fit p f) = fit_at fs p f
-bank_factors fs _ = fs
-
--- and only a set its dials
-abbrev pub bank_settings : Option (ℕ → Setting) → Request → Option (ℕ → Setting)
-bank_settings ts (Set p d c) = option_map (λ s. set_at s p (record { digits = d; conversions = c })) ts
-bank_settings ts _ = ts
-
--- ---- a box on a bank that shows m, where fs is its feeding map
-abbrev pub TellsOr : Option Answer → Type 0 → Answer → Type 0
-TellsOr None P a = P
-TellsOr (Some x) P a = a ≡ x
-
-abbrev pub BoxTells : (ℕ → Port) → Feeds → Request → Answer → Type 0
-BoxTells m fs r a = TellsOr (box_tells m fs r) (OthersTell r a) a
-
--- what its bank shows after it: only a take alters that
-abbrev pub box_below : (ℕ → Port) → Feeds → Request → ℕ → Port
-box_below m fs (Take p) = below_after fs m p
-box_below m fs _ = m
-
--- ---- a terminal whose bus is b
-abbrev pub ObeysAs : Word → Answer → Type 0
-ObeysAs w (Obeying o bs) = (o ≡ returned w) × (vec_items bs ≡ w.says)
-ObeysAs w _ = ⊥
-
-abbrev pub ServesAs : Bus → List ℕ → List (List ℕ) → Answer → Type 0
-ServesAs b run ts (Serving s bs) = (s ≡ report_of b run ts) × (vec_items bs ≡ answered b ts)
-ServesAs b run ts _ = ⊥
-
-abbrev pub TerminalTells : Bus → Request → Answer → Type 0
-TerminalTells b (Obey t) a = ObeysAs (uttered t.room b (vec_items t.bytes)) a
-TerminalTells b (Serve t) a = ServesAs b (vec_items t.bytes) (served t.room b (vec_items t.bytes)) a
-TerminalTells b r a = OthersTell r a
-
--- the bus after it
-abbrev pub terminal_after : Bus → Request → Bus
-terminal_after b (Obey t) = told t.room b (vec_items t.bytes)
-terminal_after b (Serve t) = afters b (served t.room b (vec_items t.bytes))
-terminal_after b _ = b
+-- ---- what it is after it: a count and a split leave every stand as it was
+abbrev pub left_by : Stand → Asked → Stand
+left_by (OfBase b) (Plain (Fit p f)) = OfBase (refit b p f)
+left_by (OfBase b) (Plain (Set p d c)) = OfBase (reset b p (record { digits = d; conversions = c }))
+left_by (OfBox m fs) (Plain (Join s j)) = OfBox m (rejoined m fs j.below j.above)
+left_by (OfTop m) (Plain (Take p)) = OfTop (rest_at m p)
+left_by (OfTerminal b) (Obeying n bs) = OfTerminal (told n b bs)
+left_by (OfTerminal b) (Serving n bs) = OfTerminal (afters b (served n b bs))
+left_by s a = s

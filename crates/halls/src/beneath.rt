@@ -1,48 +1,38 @@
 // The bank beneath the boxes: dials or a recording.
-ghost use Rattle.std.specs.Prelude.{◌≡◌, ℕ, List, ℤ, Some, None, Option, IfNone};
-ghost use Rattle.std.specs.Option.{option_map};
-ghost use Rattle.bank.specs.Gauges.{refitted, fit_at};
+ghost use Rattle.std.specs.Prelude.{◌≡◌, Option, Result, refl};
+ghost use Rattle.bank.specs.Gauges.{refitted};
 ghost use Rattle.bank.specs.Fitting.{factor_at};
-ghost use Rattle.bank.specs.Dials.{Setting, setting_at, set_at, placed, given};
+ghost use Rattle.bank.specs.Dials.{setting_at};
 ghost use Rattle.bank.specs.Records.{due_at};
-ghost use Rattle.halls.specs.Beneath.{factors_of, settings_of, due_of, chosen, shown_by, sound_of};
+ghost use Rattle.halls.specs.Bases.{Base, OfDials, OfRecords, base_ports, refit, setting_told, reset, chosen, base_of, shown_by, sound_of, shows_base};
 
 use crate::requests::Kind;
 use bank::{Dials, GaugeBank, Reading, Recording};
 use fault::Fault;
 
 // A bank that a script fits out before boxes stand on it.
-pub trait Fitted {
-    // The corner factor of each port that has a gauge.
-    ghost factors: { Self → ℕ → Option ℕ };
-
-    // What the dial of each port is set to, where the bank has dials.
-    ghost settings: { Self → Option (ℕ → Setting) };
-
-    // The digits that are due at each port.
-    ghost due: { Self → ℕ → List ℤ };
+pub trait Fitted: GaugeBank {
+    // Its corner factors, and its dials or the digits that are due.
+    ghost base: { Self → Base };
 
     // Gives a port one gauge with a corner factor in thousandths, in place of any that it has.
     fn fit(&mut self, port: u8, thousandths: u16) -> Result<(), Fault>
         ensures answer { result ≡ refitted port thousandths }
-        ensures after { factors self.new ≡ fit_at (factors self.old) port thousandths }
-        ensures settings { settings self.new ≡ settings self.old }
-        ensures due { due self.new ≡ due self.old };
+        ensures after { base self.new ≡ refit (base self.old) port thousandths };
 
     // Sets a port's dial, where the bank has dials.
     fn set(&mut self, port: u8, digits: i32, conversions: u16) -> Option<Result<(), Fault>>
-        ensures answer { result ≡ option_map (λ s. placed port) (settings self.old) }
-        ensures after { settings self.new ≡ option_map (λ s. set_at s port (record { digits = digits; conversions = conversions })) (settings self.old) }
-        ensures factors { factors self.new ≡ factors self.old }
-        ensures otherwise { IfNone (settings self.old) (self.new ≡ self.old) };
+        ensures answer { result ≡ setting_told (base self.old) port }
+        ensures after { base self.new ≡ reset (base self.old) port (record { digits = digits; conversions = conversions }) };
+
+    // They are what its ports show.
+    ghost shows_base: { (s : Self) → Self.shows s ≡ base_ports (base s) };
 }
 
 impl Fitted for Dials {
-    ghost factors = { λ s. factor_at s.fitting.factors };
+    ghost base = { λ s. OfDials (factor_at s.fitting.factors) (setting_at s.source.dials) };
 
-    ghost settings = { λ s. Some (setting_at s.source.dials) };
-
-    ghost due = { λ s. given (setting_at s.source.dials) };
+    ghost shows_base = { λ s. refl };
 
     fn fit(&mut self, port: u8, thousandths: u16) -> Result<(), Fault> {
         Dials::fit(self, port, thousandths)
@@ -54,11 +44,9 @@ impl Fitted for Dials {
 }
 
 impl Fitted for Recording<'_> {
-    ghost factors = { λ s. factor_at s.fitting.factors };
+    ghost base = { λ s. OfRecords (factor_at s.fitting.factors) (due_at s.source.records.now s.source.cursors) };
 
-    ghost settings = { λ s. None };
-
-    ghost due = { λ s. due_at s.source.records.now s.source.cursors };
+    ghost shows_base = { λ s. refl };
 
     fn fit(&mut self, port: u8, thousandths: u16) -> Result<(), Fault> {
         Recording::fit(self, port, thousandths)
@@ -69,8 +57,7 @@ impl Fitted for Recording<'_> {
     }
 }
 
-// A bank of one of the two kinds that a script can ask for, a gauge bank itself. It is generic in them since a recording is lent its records.
-// Kept: (a) an enum of two banks with a match in each call, as a rule of the project wants it.
+// A bank of one of the two kinds that a script can ask for, a gauge bank itself: which of them is told once, and the boxes stand on either. It is generic in them since a recording is lent its records.
 #[derive(Drop)]
 pub enum Beneath<D, R> {
     Dialled(D),
@@ -90,11 +77,9 @@ impl<D: Drop, R: Drop> Beneath<D, R> {
 }
 
 impl<D: Fitted, R: Fitted> Fitted for Beneath<D, R> {
-    ghost factors = { λ s. factors_of D.Fitted.factors R.Fitted.factors s };
+    ghost base = { λ s. base_of D.Fitted.base R.Fitted.base s };
 
-    ghost settings = { λ s. settings_of D.Fitted.settings R.Fitted.settings s };
-
-    ghost due = { λ s. due_of D.Fitted.due R.Fitted.due s };
+    ghost shows_base = { λ s. shows_base D.GaugeBank.shows R.GaugeBank.shows D.Fitted.base R.Fitted.base D.Fitted.shows_base R.Fitted.shows_base s };
 
     fn fit(&mut self, port: u8, thousandths: u16) -> Result<(), Fault> {
         match self {

@@ -7,7 +7,7 @@ ghost use Rattle.halls.specs.declared.escapes.Wanted.TheVariants.{Any};
 use std::alloc::{AllocError, Global};
 
 // What the next byte of a text may be: any that begins something, what follows a backslash, or one of two hexadecimal digits.
-// Kept: (d) a state between bytes, which the definition of decoding has too; a closure for what comes next would have to be handed out.
+// A state between bytes, which the definition of decoding has too; a closure for what comes next would have to be handed out.
 #[derive(Clone, Copy)]
 pub enum Wanted {
     Any,

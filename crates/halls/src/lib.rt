@@ -6,6 +6,7 @@ mod answers;
 mod beneath;
 mod escapes;
 mod parsing;
+mod printing;
 mod requests;
 mod running;
 mod script;
@@ -14,4 +15,8 @@ mod stages;
 mod tail;
 mod words;
 
-pub use running::play;
+pub use answers::Answer;
+pub use printing::Reply;
+pub use requests::Reason;
+pub use running::{play, replies};
+pub use script::Script;

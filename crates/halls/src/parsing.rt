@@ -13,7 +13,7 @@ use junction::Join;
 use std::alloc::{AllocError, Global};
 
 // The words that requests begin with.
-// Kept: (d) a verb is told before the rest of its line is read, since an unknown one is refused before a malformed rest.
+// A verb is told before the rest of its line is read, since an unknown one is refused before a malformed rest.
 #[derive(Clone, Copy)]
 enum Verb {
     Bank,

@@ -1,6 +1,7 @@
 // What a script asks for, and why a line of it is refused.
-ghost use Rattle.std.specs.Prelude.{◌≡◌};
+ghost use Rattle.std.specs.Prelude.{◌≡◌, Some};
 ghost use Rattle.halls.specs.Order.{stage_of, suited};
+ghost use Rattle.halls.specs.Said.{reason_text};
 
 use crate::stages::Stage;
 use bank::Record;
@@ -84,6 +85,8 @@ pub enum Reason {
 }
 
 impl fmt::Display for Reason {
+    ghost output = { λ r. Some (reason_text r) };
+
     fn fmt<W: fmt::Write>(&self, f: &mut fmt::Formatter<W>) -> fmt::Result {
         f.write_str(match self {
             Reason::OutOfOrder => "out of order",

@@ -1,7 +1,7 @@
 // A script: its lines read and put in order.
 ghost use Rattle.std.specs.Prelude.{◌≡◌, IfOk, OnOk};
 ghost use Rattle.halls.specs.Lines.{request_seen};
-ghost use Rattle.halls.specs.Scripts.{course_of, let_in, stage_then, noted, line_added, script_of};
+ghost use Rattle.halls.specs.Scripts.{course_of, let_in, stage_then, noted, line_added, script_of, Ordered};
 
 use crate::parsing::{is_idle, request};
 use crate::requests::{Kind, Reason, Request};
@@ -29,7 +29,8 @@ pub struct Script {
 impl Script {
     // Reads a script of lines that end with a line feed, which the last may lack.
     pub fn read(heap: Global, text: &[u8]) -> Result<Script, AllocError>
-        ensures { IfOk result (λ s. course_of s ≡ script_of text.now) }
+        ensures value { IfOk result (λ s. course_of s ≡ script_of text.now) }
+        ensures ordered { IfOk result (λ s. Ordered (course_of s).steps) }
     {
         let mut script = Script {
             kind: Kind::Dials,

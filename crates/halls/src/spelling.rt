@@ -1,6 +1,7 @@
 // How one byte is written as printable text.
-ghost use Rattle.std.specs.Prelude.{◌≡◌, ◌<◌};
-ghost use Rattle.halls.specs.Escapes.{glyph_of, spelled, ReadsBack};
+ghost use Rattle.std.specs.Prelude.{◌≡◌, ◌<◌, Some};
+ghost use Rattle.std.specs.Str.{encode_utf8_all};
+ghost use Rattle.halls.specs.Escapes.{glyph_of, spelled, text_of, ReadsBack};
 
 use std::fmt;
 
@@ -13,7 +14,7 @@ pub enum Spelling {
 }
 
 // The hexadecimal digit of a number.
-// Kept: (d) upper case: `from_digit` gives lower case, and a char.
+// `from_digit` gives lower case, and a char.
 fn glyph(nibble: u8) -> u8
     requires { nibble < 16 }
     ensures { result ≡ glyph_of nibble }
@@ -45,9 +46,11 @@ impl From<u8> for Spelling {
 }
 
 impl fmt::Display for Spelling {
+    ghost output = { λ s. Some (encode_utf8_all (text_of s)) };
+
     fn fmt<W: fmt::Write>(&self, f: &mut fmt::Formatter<W>) -> fmt::Result {
         match self {
-            Spelling::Itself(byte) => f.write_char(char::from(*byte)),
+            Spelling::Itself(byte) => write!(f, "{}", char::from(*byte)),
             Spelling::Letter(letter) => write!(f, "\\{}", char::from(*letter)),
             Spelling::Digits(high, low) => {
                 write!(f, "\\x{}{}", char::from(*high), char::from(*low))

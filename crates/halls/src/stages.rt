@@ -60,7 +60,7 @@ impl Stage {
     }
 
     // The stage in which the box of a level is joined, 1 the lowest.
-    // Kept: (d) a level numbers the boxes and not the stages, so a plain conversion from a number would hide what it counts.
+    // A level numbers the boxes and not the stages, so a plain conversion from a number would hide what it counts.
     pub fn of_level(level: u8) -> Option<Stage>
         ensures { result ≡ box_stage level }
     {

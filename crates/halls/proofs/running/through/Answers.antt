@@ -1,16 +1,15 @@
-use Rattle.std.proofs.Common.{◌≡◌, leb, leb-true, not, nat_lt, arith, rules, length, ap, ◌∙◌}
-use Rattle.std.proofs.lemmas.Bool.{leb-false}
-use Rattle.std.proofs.lemmas.List.Sorted.{IsPartitionPoint-from_clause, IsPartitionedBy-leb}
-use Rattle.std.proofs.lemmas.List.{length-take-le}
-use Rattle.halls.specs.Order.{step_rank}
-use Rattle.halls.specs.Stages.{rank}
-use Rattle.halls.proofs.Parting.{not_after}
+use Rattle.std.proofs.Common.{map, ap, ◌∙◌, length}
+use Rattle.std.specs.Option.{unwrap_or}
+use Rattle.halls.specs.Scripts.{met_of}
+use Rattle.halls.proofs.Parting.{parted_upto, parted_beyond}
 use Rattle.halls.proofs.running.through.Goals as goal
 
-pub returns-clause-parted : goal.returns-clause-parted
-returns-clause-parted c h =
-    let t = rank c.args.stage in
-    let parted = IsPartitionedBy-leb step_rank _ t h in
-    let point = IsPartitionPoint-from_clause (λ s. leb (step_rank s) t) _ _ c.partition_point-end.ensures.partitioned parted (λ a r q k. (let e : r ≡ not (nat_lt t (rank a.0.now.stage)) = search rules in e ∙ not_after _ _, search rules)) in
-    let n : length c.split_at.result.0.now ≡ c.partition_point-end.result = ap length c.split_at.ensures.front ∙ length-take-le _ _ c.partition_point-end.ensures.bound in
-    (λ k d a b. leb-true _ _ (point.0 k d a (omega arith)), λ k d a b. leb-false _ _ (point.1 k d (omega arith) b))
+pub returns-clause-within : goal.returns-clause-within
+returns-clause-within c =
+    ap (map met_of) c.split_at.ensures.front
+    ∙ parted_upto c.args.stage c.args.steps.now c.unwrap_or-end.result (c.unwrap_or-end.ensures ∙ ap (λ o. unwrap_or o (length c.args.steps.now)) c.first_after.ensures)
+
+pub returns-clause-after : goal.returns-clause-after
+returns-clause-after c =
+    ap (map met_of) c.split_at.ensures.back
+    ∙ parted_beyond c.args.stage c.args.steps.now c.unwrap_or-end.result (c.unwrap_or-end.ensures ∙ ap (λ o. unwrap_or o (length c.args.steps.now)) c.first_after.ensures)

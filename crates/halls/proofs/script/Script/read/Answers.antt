@@ -1,9 +1,10 @@
-use Rattle.std.proofs.Common.{length, drop, ◌==◌, sym, ap, ◌∙◌, arith, rules, tests}
+use Rattle.std.proofs.Common.{◌≡◌, length, drop, ◌==◌, sym, ap, subst, ◌∙◌, arith, rules, tests}
 use Rattle.std.proofs.lemmas.List.{at_drop_all, length_push}
 use Rattle.std.proofs.lemmas.Iterator.Consumers.{YieldsList-at, YieldsList-from_enumerate, YieldsList-turn, YieldsList-end}
 use Rattle.std.proofs.lemmas.Iterator.Splits.{YieldsList-from_slice_split}
-use Rattle.halls.specs.Scripts.{course_of, lines_added, lines_of}
+use Rattle.halls.specs.Scripts.{course_of, lines_added, lines_of, script_of, Ordered}
 use Rattle.halls.proofs.Lines.{goes, few}
+use Rattle.halls.proofs.Ordering.{script_ordered}
 use Rattle.halls.proofs.script.Script.read.Goals as goal
 
 pub loop-above-preserved : goal.loop-above-preserved
@@ -18,4 +19,5 @@ loop-above-preserved c =
 pub returns : goal.returns
 returns c =
     let end = YieldsList-end (YieldsList-at c.into_iter-above-iterator.ensures.into_iter_gives (YieldsList-from_enumerate (YieldsList-at c.enumerate-above-items.ensures.source (YieldsList-from_slice_split _ (λ b. b == 10) c.args.text.now c.split.ensures.rest c.split.ensures.done c.split.ensures.closure (λ x b q k. search (rules, tests)))) c.enumerate-above-items.ensures.count)) c.loop-above.yielded _ c.loop-above.yielded_by _ _ c.in-None.is c.next.ensures.steps in
-    sym (at_drop_all (lines_added (course_of c.loop-above.script)) (lines_of c.args.text.now) (length c.loop-above.yielded) (omega (arith, end.1))) ∙ c.loop-above.invariant
+    let whole : course_of c.loop-above.script ≡ script_of c.args.text.now = sym (at_drop_all (lines_added (course_of c.loop-above.script)) (lines_of c.args.text.now) (length c.loop-above.yielded) (omega (arith, end.1))) ∙ c.loop-above.invariant in
+    record { value = whole; ordered = subst (λ k. Ordered k.steps) (sym whole) (script_ordered c.args.text.now) }
