@@ -1,5 +1,5 @@
-// A box over dials, over a recording and over another box: three gauges full and one empty, marks, limits and refusals.
-use bank::{Dials, GaugeBank, Mark, Reading, Record, Recording};
+// A box over dials, over a recording and over another box: three gauges full and one empty, marks, limits and refusals; and a pile with counted banks in it.
+use bank::{CountedBank, Dials, GaugeBank, Mark, Reading, Record, Recording};
 use fault::{Cause, Fault};
 use junction::{Join, wired};
 use std::test::Fail;
@@ -80,5 +80,37 @@ fn boxes_stand_on_a_recording(rt: HostRuntime) -> Result<(), Fail> {
     assert_eq!(rt; top.waiting(0), Ok(1));
     assert_eq!(rt; top.take(0), Ok(reading(96_500, false)));
     assert_eq!(rt; top.waiting(0), Ok(0));
+    Ok(())
+}
+
+// Whether two banks answer every call alike, at each port and at one that no bank has, before each of three takes and after.
+fn answer_alike<A: GaugeBank, B: GaugeBank>(one: &mut A, other: &mut B) -> bool {
+    for port in 0..33u8 {
+        for _ in 0..4 {
+            if one.gauges(port) != other.gauges(port)
+                || one.waiting(port) != other.waiting(port)
+                || one.take(port) != other.take(port)
+            {
+                return false;
+            }
+        }
+    }
+    true
+}
+
+#[test]
+fn counted_banks_in_a_pile_change_no_answer(rt: HostRuntime) -> Result<(), Fail> {
+    let first = [Join { below: 2, above: 1 }, Join { below: 4, above: 3 }];
+    let second = [Join { below: 1, above: 5 }];
+    let mut plain = wired(wired(four_dials()?, &first).junction, &second).junction;
+    let low = wired(CountedBank::over(four_dials()?), &first).junction;
+    let top = wired(CountedBank::over(low), &second).junction;
+    let mut counted = CountedBank::over(top);
+    assert_eq!(rt; counted.gauges(5), Ok(2));
+    assert_eq!(rt; counted.waiting(5), Ok(2));
+    assert_eq!(rt; counted.waiting(3), Ok(1));
+    assert!(rt; answer_alike(&mut plain, &mut counted));
+    assert_eq!(rt; counted.waiting(5), Ok(0));
+    assert_eq!(rt; counted.gauges(5), Ok(2));
     Ok(())
 }

@@ -3,3 +3,7 @@
 // Examples of boxes over each kind of bank.
 #[cfg(test)]
 mod boxes;
+
+// What the platform reads of its input.
+#[cfg(test)]
+mod limits;
