@@ -2,7 +2,8 @@
 
 fn main() {
     for name in ["LINKED_DIR", "KIT_LIB"] {
-        let folder = std::env::var(name).unwrap_or_else(|_| panic!("{name} is not set: run twin/measure"));
+        let folder =
+            std::env::var(name).unwrap_or_else(|_| panic!("{name} is not set: run twin/measure"));
         println!("cargo:rustc-link-search=native={folder}");
         println!("cargo:rerun-if-env-changed={name}");
         println!("cargo:rerun-if-changed={folder}");

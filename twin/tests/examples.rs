@@ -1,6 +1,6 @@
 //! The worked examples of docs/PROTOCOL.md, sections 13 and 14.
 
-use twin::{Bank, Cause, Dials, Fault, JunctionBox, Record, Recording, Stop, Terminal};
+use twin::{Bank, Cause, Dials, Fault, JunctionBox, Platform, Record, Recording, Stop, Terminal};
 
 const CORNERS: [i32; 4] = [250_125, 250_124, 250_126, 250_125];
 
@@ -48,6 +48,48 @@ fn the_platform() {
     let wanted = "0\r\n+1000500\r\n+0500000,05,008\r\n+0500000,05,008\r\n";
     assert_eq!(&buffer[..served.written], wanted.as_bytes());
     assert!(buffer[served.written..].iter().all(|&byte| byte == 0xAA));
+}
+
+#[test]
+fn the_stored_input_of_the_platform() {
+    let input = include_bytes!("../../crates/platform/stdin");
+    let wanted = include_bytes!("../../crates/platform/stdout");
+    assert_eq!(Platform::PAGE.play(input).unwrap(), wanted);
+}
+
+/// Blanks, and the command behind them; its end character is the byte of
+/// that number.
+fn ending_at(end: usize, command: &str) -> Vec<u8> {
+    let mut input = b"S01;".to_vec();
+    input.resize(end - command.len() - 60, b';');
+    input.resize(end - command.len() - 1, b' ');
+    input.extend(format!("{command};").bytes());
+    input
+}
+
+#[test]
+fn the_last_byte_that_is_read() {
+    for (end, command, answer) in [(4096, "COF?", "009\r\n"), (4097, "COF?", "")] {
+        let mut input = ending_at(end, command);
+        assert_eq!(input.len(), end);
+        assert_eq!(Platform::PAGE.play(&input).unwrap(), answer.as_bytes());
+        input.extend(b"x;COF?;MSV?;");
+        assert_eq!(Platform::PAGE.play(&input).unwrap(), answer.as_bytes());
+    }
+}
+
+#[test]
+fn the_hundredth_reading() {
+    for select in ["S01", "S05"] {
+        let run = format!("{select};COF35;MSV?64;MSV?37;ESR?;MSV?36;MSV?;ESR?;");
+        let answers = Platform::PAGE.play(run.as_bytes()).unwrap();
+        let port = &select[1..];
+        let refusal = format!("?\r\n013,B,0{port}\r\n");
+        let [first, last] = [64, 36].map(|values| values * 8);
+        assert_eq!(answers.len(), 3 + first + last + 2 * refusal.len());
+        assert!(answers[3 + first..].starts_with(refusal.as_bytes()));
+        assert!(answers.ends_with(refusal.as_bytes()));
+    }
 }
 
 #[test]

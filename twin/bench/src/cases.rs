@@ -33,10 +33,38 @@ pub const CASES: &[Case] = &[
     values("value-cof3", dials(0, 0), "S01;COF3;"),
     values("value-cof8", dials(0, 0), "S01;COF8;"),
     values("value-cof9-nov", dials(0, 0), "S01;SPW\"AED\";NOV3000;RSN5;"),
-    Case { name: "block-64", hall: dials(0, 0), start: "S01;COF8;", round: Round::Command("MSV?64;"), rounds: 1_000, answer: 64 * 4 + 2 },
-    Case { name: "poll-32", hall: dials(0, 0), start: "S98;COF8;", round: Round::Poll, rounds: 1_000, answer: 32 * 17 },
-    Case { name: "entries", hall: dials(0, 0), start: "S01;", round: Round::Command("COF3; rsn 1.0 ;ICR?;TAS1;"), rounds: 5_000, answer: 40 },
-    Case { name: "recording", hall: Hall::Recording, start: "S01;COF3;", round: Round::Command("MSV?;"), rounds: 65_535, answer: 17 },
+    Case {
+        name: "block-64",
+        hall: dials(0, 0),
+        start: "S01;COF8;",
+        round: Round::Command("MSV?64;"),
+        rounds: 1_000,
+        answer: 64 * 4 + 2,
+    },
+    Case {
+        name: "poll-32",
+        hall: dials(0, 0),
+        start: "S98;COF8;",
+        round: Round::Poll,
+        rounds: 1_000,
+        answer: 32 * 17,
+    },
+    Case {
+        name: "entries",
+        hall: dials(0, 0),
+        start: "S01;",
+        round: Round::Command("COF3; rsn 1.0 ;ICR?;TAS1;"),
+        rounds: 5_000,
+        answer: 40,
+    },
+    Case {
+        name: "recording",
+        hall: Hall::Recording,
+        start: "S01;COF3;",
+        round: Round::Command("MSV?;"),
+        rounds: 65_535,
+        answer: 17,
+    },
     values("boxes-1", dials(1, 4), "S01;COF3;"),
     values("boxes-2", dials(2, 4), "S01;COF3;"),
     values("boxes-3", dials(3, 4), "S01;COF3;"),
@@ -47,7 +75,10 @@ impl Case {
     fn one(&self) -> String {
         match self.round {
             Round::Command(text) => text.to_string(),
-            Round::Poll => "S98;MSV?;".to_string() + &(0..32).map(|address| format!("S{address:02};")).collect::<String>(),
+            Round::Poll => {
+                "S98;MSV?;".to_string()
+                    + &(0..32).map(|address| format!("S{address:02};")).collect::<String>()
+            }
         }
     }
 

@@ -59,16 +59,27 @@ fn main() {
     match words[..] {
         ["list"] => CASES.iter().for_each(|case| println!("{} {}", case.name, case.rounds)),
         ["check"] => {
-            let wrong = CASES.iter().filter(|case| !agree(case)).inspect(|case| println!("{}: the bytes differ", case.name)).count();
+            let wrong = CASES
+                .iter()
+                .filter(|case| !agree(case))
+                .inspect(|case| println!("{}: the bytes differ", case.name))
+                .count();
             println!("{} passed, {wrong} failed", CASES.len() - wrong);
             std::process::exit(i32::from(wrong > 0));
         }
         ["time"] => {
             for case in CASES {
-                println!("{} {:.0} {:.0}", case.name, speed(Side::Proved, case), speed(Side::Twin, case));
+                println!(
+                    "{} {:.0} {:.0}",
+                    case.name,
+                    speed(Side::Proved, case),
+                    speed(Side::Twin, case)
+                );
             }
         }
-        ["commands", name, rounds] => println!("{}", find(name).commands(rounds.parse().expect("a number"))),
+        ["commands", name, rounds] => {
+            println!("{}", find(name).commands(rounds.parse().expect("a number")))
+        }
         [side, name, rounds] => {
             let case = find(name);
             let rounds = rounds.parse().expect("a number");

@@ -166,7 +166,7 @@ fn say(rng: &mut Rng, lines: &mut Lines, commands: Vec<Vec<u8>>) {
     }
 }
 
-fn run_of(rng: &mut Rng, commands: &[Vec<u8>]) -> Vec<u8> {
+pub fn run_of(rng: &mut Rng, commands: &[Vec<u8>]) -> Vec<u8> {
     let mut run = Vec::new();
     let style = rng.below(4);
     for command in commands {

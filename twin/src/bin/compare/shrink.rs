@@ -1,4 +1,4 @@
-//! Shrinks a script on which the two differ.
+//! Shrinks a script or an input on which the two differ.
 
 use crate::generate::{call, Lines};
 use twin::hall::escape;
@@ -23,6 +23,26 @@ impl<'a> Shrinker<'a> {
         self.shorten_bytes(&mut lines);
         self.drop_lines(&mut lines);
         lines
+    }
+
+    /// Drops commands of an input; makes others, without which the rest
+    /// would stand elsewhere, blank ones of the same length; drops bytes.
+    pub fn shrink_input(&mut self, input: Vec<u8>) -> Vec<u8> {
+        let ends = |&byte: &u8| byte == b';' || byte == b'\n';
+        let mut commands: Lines = input.split_inclusive(ends).map(<[u8]>::to_vec).collect();
+        self.drop_lines(&mut commands);
+        for at in 0..commands.len() {
+            let blank = vec![b';'; commands[at].len()];
+            let command = std::mem::replace(&mut commands[at], blank);
+            if !self.still_differs(&commands) {
+                commands[at] = command;
+            }
+        }
+        let mut bytes = commands.concat();
+        self.drop_pieces(&mut bytes, &mut |shrinker, shorter| {
+            shrinker.still_differs(&[shorter.to_vec()])
+        });
+        bytes
     }
 
     fn still_differs(&mut self, lines: &[Vec<u8>]) -> bool {

@@ -7,9 +7,13 @@ use std::collections::BTreeMap;
 use twin::command::{self, Command, Query};
 use twin::hall::{self, script};
 
+/// Scripts of more bytes than this are counted.
+const LONG: usize = 65_536;
+
 #[derive(Default)]
 pub struct Tally {
     pub scripts: usize,
+    long: usize,
     pub lines: usize,
     pub obeyed: usize,
     pub served: usize,
@@ -42,6 +46,7 @@ impl Tally {
     /// `COF?`, which alters nothing; whether the answers are then the same.
     pub fn count(&mut self, lines: &[Vec<u8>], printed: &[u8]) -> bool {
         self.scripts += 1;
+        self.long += usize::from(lines.iter().map(|line| line.len() + 1).sum::<usize>() > LONG);
         let mut one_by_one = Vec::new();
         let mut served_answers = Vec::new();
         let requests = lines.iter().filter(|line| !script::is_silent(line));
@@ -145,6 +150,7 @@ impl Tally {
 
     pub fn print(&self) {
         println!("{} scripts with {} requests", self.scripts, self.lines);
+        println!("scripts of more than {LONG} bytes: {}", self.long);
         let (obeyed, served) = (self.obeyed, self.served);
         println!("{} commands: {obeyed} obeyed, {served} served in runs", self.commands());
         let (good, refused, silent) = (self.good, self.refused, self.silent);
@@ -173,6 +179,9 @@ impl Tally {
     /// What a good run must have met and this one has not.
     pub fn gaps(&self) -> Vec<String> {
         let mut gaps = Vec::new();
+        if self.long == 0 {
+            gaps.push(format!("a script of more than {LONG} bytes"));
+        }
         for (number, _) in self.faults.iter().enumerate().skip(1).filter(|(_, &count)| count == 0) {
             gaps.push(format!("fault {number}"));
         }
