@@ -1,9 +1,9 @@
-// Plays the script of a hall, here one over a recording.
-// A program of its own beside that of the dials: the gate runs a program on one input.
+// Plays the script of a hall that standard input holds.
 #![tactic(auto)]
 
-use std::io;
+use std::io::{self, BufWriter};
 
 fn main(rt: HostRuntime) -> io::Result<()> {
-    halls::play(rt.alloc(), rt.stdin(), &mut rt.stdout())
+    let mut output = BufWriter::new(rt.alloc(), rt.stdout())?;
+    halls::play(rt.alloc(), rt.stdin(), &mut output)
 }

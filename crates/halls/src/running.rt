@@ -129,14 +129,14 @@ pub fn replies<'a>(heap: Global, script: &'a Script) -> Result<Vec<Reply<'a>>, A
     )
 }
 
-// Prints a line for each reply, in their order.
+// Prints a line for each reply, in their order, and keeps none of them back.
 fn print_all<W: Write>(replies: &[Reply<'_>], output: &mut W) -> io::Result<()>
     ensures { OnOk result (Appends (W.contents output.old) (W.contents output.new) (lines_text (map reply_of replies.now))) }
 {
     for reply in replies {
         writeln!(output, "{reply}")?;
     }
-    Ok(())
+    output.flush()
 }
 
 // Reads a script from the input to its end, and prints a line for each request.
