@@ -18,7 +18,7 @@ const MOST: u16 = 8;
 
 // A bank, and which port above each of its ports feeds. It keeps nothing of the bank below, and asks the ports that feed a port, of which the map knows the chain.
 #[derive(Drop)]
-pub struct JunctionBox<B: GaugeBank> {
+pub struct JunctionBox<B> {
     below: B,
     feeds: Feeds,
 }

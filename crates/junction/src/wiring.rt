@@ -11,7 +11,7 @@ use fault::Fault;
 
 // A box as its joins made it, and how many of them were refused.
 #[derive(Drop)]
-pub struct WiredBox<B: GaugeBank> {
+pub struct WiredBox<B> {
     pub junction: JunctionBox<B>,
     pub refused: usize,
 }
