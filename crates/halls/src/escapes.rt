@@ -87,7 +87,9 @@ pub fn unescaped(heap: Global, text: &[u8]) -> Result<Option<Vec<u8>>, AllocErro
         let Some(turn) = turn_at(wanted, *byte) else {
             return Ok(None);
         };
-        bytes.extend(turn.byte)?;
+        if let Some(byte) = turn.byte {
+            bytes.push(byte)?;
+        }
         wanted = turn.next;
     }
     match wanted {

@@ -1,15 +1,21 @@
-use Rattle.std.proofs.Common.{◌≡◌, ◌+◌, ◌++◌, drop, vec_items, Ok, refl, sym, ap, ◌∙◌, arith}
-use Rattle.std.proofs.lemmas.Iterator.Adapters.{items_from_extend, YieldsList-from_once}
-use Rattle.halls.specs.Escapes.{decoded}
+use Rattle.std.proofs.Common.{◌≡◌, ◌+◌, ◌++◌, ℕ, List, drop, vec_items, sym, ap, ◌∙◌, subst, arith}
+use Rattle.std.proofs.lemmas.List.{append-nil}
+use Rattle.halls.specs.declared.escapes.Wanted.{Wanted}
+use Rattle.halls.specs.Escapes.{Sane, decoded, kept}
 use Rattle.halls.proofs.Decoding.{behind, goes}
 use Rattle.halls.proofs.escapes.unescaped.Goals as goal
+use Rattle.halls.proofs.escapes.unescaped.Goals.{in-Some-byte+in_ok-push, in_default-byte}
 
 pub loop-byte-preserved : goal.loop-byte-preserved
 loop-byte-preserved c =
     let t = c.args.text.now in
     let i = c.loop-byte.byte-index in
     let u = c.in-Some.turn in
-    let e = goes (vec_items c.loop-byte.bytes) c.loop-byte.wanted t i u (omega arith) (sym c.in-Some.ensures.value) in
-    let ran = c.in_ok-extend.ensures.ran in
-    let added = items_from_extend {E = Unit {0}} {P = λ ys. vec_items c.extend.new.self ≡ vec_items c.loop-byte.bytes ++ ys} (Ok tt) (ran.0, ran.1, refl, ran.3.0, ran.4) (YieldsList-from_once u.byte ran.2.0) in
-    (ap (λ xs. behind xs (decoded u.next (drop (i + 1) t))) added ∙ sym e ∙ c.loop-byte.invariant.0, c.in-Some.ensures.sane)
+    let xs : List ℕ = vec_items c.loop-byte.bytes in
+    let e = goes xs c.loop-byte.wanted t i u (omega arith) (sym c.in-Some.ensures.value) in
+    let added : vec_items c.match-turn.bytes ≡ xs ++ kept u.byte = elim c.match-turn.branch [
+      | in-Some-byte+in_ok-push w ↦ ap vec_items w.bytes-is ∙ w.in_ok-push.ensures.items ∙ ap (λ o. xs ++ kept o) (sym w.in-Some-byte.is)
+      | in_default-byte w ↦ ap vec_items w.bytes-is ∙ sym (append-nil xs) ∙ ap (λ o. xs ++ kept o) (sym w.in_default-byte.is)
+    ] in
+    let goes_on : u.next ≡ c.match-turn.wanted = elim c.match-turn.branch [ in-Some-byte+in_ok-push w ↦ sym w.wanted-is | in_default-byte w ↦ sym w.wanted-is ] in
+    (ap (λ (w : Wanted). behind (vec_items c.match-turn.bytes) (decoded w (drop (i + 1) t))) (sym goes_on) ∙ ap (λ ys. behind ys (decoded u.next (drop (i + 1) t))) added ∙ sym e ∙ c.loop-byte.invariant.0, subst Sane goes_on c.in-Some.ensures.sane)
