@@ -10,5 +10,6 @@ mod Counted
 mod Drained
 mod Walks
 mod Chaining
+mod Moving
 pub mod Rejoined
 pub mod Piles

@@ -32,11 +32,11 @@ pub stands_at : (f : ℕ → ℕ) (p : ℕ) (x : Option Address) (q : Address) �
 stands_at f p x q e h = subst (λ (o : Option Address). Stands f p (option_map number_of o)) e h
 
 module _ (f : ℕ → ℕ) (p : ℕ) where
-  found : (q n : ℕ) → f q ≡ p → next_from f p q (suc n) ≡ Some q
+  pub found : (q n : ℕ) → f q ≡ p → next_from f p q (suc n) ≡ Some q
   unfolding next_from
   found q n e = let b = eq-eqb (f q) p e in rw b
 
-  passed : (q n : ℕ) → f q ≢ p → next_from f p q (suc n) ≡ next_from f p (suc q) n
+  pub passed : (q n : ℕ) → f q ≢ p → next_from f p q (suc n) ≡ next_from f p (suc q) n
   unfolding next_from
   passed q n ne = let b = ne_eqb (f q) p ne in rw b
 

@@ -1,5 +1,5 @@
 -- What a feeding map keeps to be walked by: for each port the chain of those that feed it.
-use Rattle.std.specs.Prelude.{◌≡◌, ℕ, ◌+◌, ◌-◌, ◌<◌, List, map, None, Option, slice_index_or}
+use Rattle.std.specs.Prelude.{◌≡◌, ◌≢◌, ℕ, ◌+◌, ◌-◌, ◌<◌, ◌≤◌, List, map, None, Some, Option, slice_index_or, slice_set}
 use Rattle.std.specs.Option.{option_map}
 use Rattle.bank.specs.declared.address.Address.{Address}
 use Rattle.bank.specs.Addresses.{number_of}
@@ -17,3 +17,29 @@ link places k = option_map number_of (slice_index_or places k None)
 pub record Chained (f : ℕ → ℕ) (first next : List (Option Address)) : Type 0 where
   pub firsts : (p : ℕ) → p < 32 → link first p ≡ next_from f p 0 32
   pub nexts : (q : ℕ) → q < 32 → link next q ≡ next_from f (f q) (q + 1) (31 - q)
+
+-- where a walk goes on from the port before, and where it begins
+abbrev pub from : Option ℕ → ℕ
+from None = 0
+from (Some q) = q + 1
+
+-- a port, if there is one, feeds p
+abbrev pub Feeder : (ℕ → ℕ) → ℕ → Option ℕ → Type 0
+Feeder f p None = Unit {0}
+Feeder f p (Some q) = f q ≡ p
+
+-- the last port that feeds p and comes before the port b, or none where none does
+pub record LastBefore (f : ℕ → ℕ) (p b : ℕ) (last : Option ℕ) : Type 0 where
+  pub feeds : Feeder f p last
+  pub before : from last ≤ b
+  pub between : (q : ℕ) → from last ≤ q → q < b → f q ≢ p
+
+-- the first ports of the chains once x comes in the chain of the port p after a port, or first where that is none
+abbrev pub first_put : List (Option Address) → ℕ → Option Address → Option Address → List (Option Address)
+first_put first p None x = slice_set first p x
+first_put first p (Some q) x = first
+
+-- and the next ports
+abbrev pub next_put : List (Option Address) → Option Address → Option Address → List (Option Address)
+next_put next None x = next
+next_put next (Some q) x = slice_set next q.number x

@@ -3,19 +3,34 @@ ghost use Rattle.std.specs.Prelude.{◌≡◌, ◌+◌, ◌-◌};
 ghost use Rattle.std.specs.Option.{option_map};
 ghost use Rattle.bank.specs.Addresses.{number_of};
 ghost use Rattle.junction.specs.Feeding.{fed, own, moved, next_from};
-ghost use Rattle.junction.specs.Chains.{mapped, Chained};
+ghost use Rattle.junction.specs.Chains.{mapped, Chained, LastBefore};
 
 use bank::Address;
 use std::marker::Model;
 
-// The chain of each port above: the first port below that feeds it, and from each port below the next that feeds the same.
-#[derive(Drop)]
+// The chain of each port above: the first port below that feeds it, and from each port below the next that feeds the same. Each chain ascends.
+#[derive(Clone, Copy)]
 struct Chains {
     first: [Option<Address>; 32],
     next: [Option<Address>; 32],
 }
 
-// The chains of a map, found from the highest port down.
+impl Chains {
+    ghost use Rattle.junction.specs.Chains.{first_put, next_put};
+
+    // Makes a port the next after another in the chain of a port above, or its first. With none the chain ends there.
+    fn put(&mut self, above: Address, after: Option<Address>, port: Option<Address>)
+        ensures first { self.new.first ≡ first_put self.old.first above.number after port }
+        ensures next { self.new.next ≡ next_put self.old.next after port }
+    {
+        match after {
+            None => self.first[above.index()] = port,
+            Some(q) => self.next[q.index()] = port,
+        }
+    }
+}
+
+// The chains of a whole map, found from the highest port down. Where one port moves, `turned` does not make them anew.
 fn chained(joined: &[Option<Address>; 32]) -> Chains
     ensures { Chained (fed (mapped joined.now)) result.first result.next }
 {
@@ -63,13 +78,51 @@ impl Feeds {
         Feeds::of([None; 32])
     }
 
-    // The map in which a port below feeds another port above.
+    // The map in which a port below feeds another port above. The port leaves the chain of the one that it fed, and comes into that of the one that it is to feed; no other chain alters, so that a walk along these two is enough.
     pub fn turned(&self, below: Address, above: Address) -> Feeds
         ensures { result ≡ moved self.now below.number above.number }
     {
-        let mut joined = self.joined;
-        joined[below.index()] = Some(above);
-        Feeds::of(joined)
+        let mut turned = Feeds {
+            joined: self.joined,
+            chains: self.chains,
+        };
+        turned.joined[below.index()] = Some(above);
+        let fed = self.above(below);
+        if fed.number != above.number {
+            let previous = self.last_before(fed, below);
+            turned.chains.put(fed, previous, self.next(below));
+            let before = self.last_before(above, below);
+            let after = match before {
+                None => self.first(above),
+                Some(q) => self.next(q),
+            };
+            turned.chains.next[below.index()] = after;
+            turned.chains.put(above, before, Some(below));
+        }
+        turned
+    }
+
+    // The port above that a port below feeds.
+    fn above(&self, below: Address) -> Address
+        ensures { result.number ≡ fed self.now below.number }
+    {
+        self.joined[below.index()].unwrap_or(below)
+    }
+
+    // The last port that feeds a port above and comes before a port below. Its chain ascends, so that the walk ends there or at the first port past it.
+    fn last_before(&self, above: Address, below: Address) -> Option<Address>
+        ensures { LastBefore (fed self.now) above.number below.number (option_map number_of result) }
+    {
+        let mut last = None;
+        let mut at = self.first(above);
+        while let Some(q) = at {
+            if q.number >= below.number {
+                break;
+            }
+            last = Some(q);
+            at = self.next(q);
+        }
+        last
     }
 
     // The first port below that feeds a port above.
