@@ -1,9 +1,9 @@
-// Plays the script of a hall that standard input holds.
+// Plays the script of a hall, here one over a recording.
+// A program of its own beside that of the dials: the gate runs a program on one input.
 #![tactic(auto)]
 
-use std::io::{self, BufWriter};
+use std::io;
 
 fn main(rt: HostRuntime) -> io::Result<()> {
-    let mut output = BufWriter::new(rt.alloc(), rt.stdout())?;
-    halls::play(rt.alloc(), rt.stdin(), &mut output)
+    halls::play(rt.alloc(), rt.stdin(), &mut rt.stdout())
 }

@@ -3,7 +3,7 @@ ghost use Rattle.std.specs.Prelude.{◌≡◌, ◌++◌, IfSome, IfOk, OnOk, con
 ghost use Rattle.halls.specs.Stages.{rank};
 ghost use Rattle.halls.specs.Scripts.{met_of, course_of};
 ghost use Rattle.halls.specs.Said.{reply_of, lines_text};
-ghost use Rattle.std.specs.Io.KnownBytes.{Appends};
+ghost use Rattle.std.specs.Io.KnownBytes.{Appends, Keeps, append_known};
 ghost use Rattle.halls.specs.Bases.{base_of, chosen};
 ghost use Rattle.halls.specs.Stands.{new_box, shown};
 ghost use Rattle.halls.specs.Replies.{reply_to, stand_then, replies_by, stand_after, upto, beyond, replies_over, replies_of, printed_for, EachReplied};
@@ -21,6 +21,9 @@ use junction::JunctionBox;
 use std::alloc::{AllocError, Global};
 use std::io::{self, Read, Write};
 use terminal::Terminal;
+
+// So many bytes of lines are printed at once.
+const BLOCK: usize = 8192;
 
 // The place of the first step that comes after a stage.
 fn first_after(steps: &[Step], stage: Stage) -> Option<usize>
@@ -129,14 +132,27 @@ pub fn replies<'a>(heap: Global, script: &'a Script) -> Result<Vec<Reply<'a>>, A
     )
 }
 
-// Prints a line for each reply, in their order, and keeps none of them back.
-fn print_all<W: Write>(replies: &[Reply<'_>], output: &mut W) -> io::Result<()>
+// Hands a block of lines on once it is long enough.
+fn hand_on<W: Write>(block: &mut Vec<u8>, output: &mut W) -> io::Result<()>
+    ensures { OnOk result (Keeps (append_known (W.contents output.old) (vec_items block.old)) (append_known (W.contents output.new) (vec_items block.new))) }
+{
+    if block.len() >= BLOCK {
+        output.write_all(block.as_slice())?;
+        block.clear();
+    }
+    Ok(())
+}
+
+// Prints a line for each reply, in their order. The lines are gathered in blocks, since standard output would be written at each fragment of a line.
+fn print_all<W: Write>(heap: Global, replies: &[Reply<'_>], output: &mut W) -> io::Result<()>
     ensures { OnOk result (Appends (W.contents output.old) (W.contents output.new) (lines_text (map reply_of replies.now))) }
 {
+    let mut block = Vec::with_capacity(heap, BLOCK)?;
     for reply in replies {
-        writeln!(output, "{reply}")?;
+        writeln!(block, "{reply}")?;
+        hand_on(&mut block, output)?;
     }
-    output.flush()
+    output.write_all(block.as_slice())
 }
 
 // Reads a script from the input to its end, and prints a line for each request.
@@ -146,5 +162,5 @@ pub fn play<R: Read + Drop, W: Write>(heap: Global, mut input: R, output: &mut W
     let mut text = Vec::new(heap);
     input.read_to_end(&mut text)?;
     let script = Script::read(heap, text.as_slice())?;
-    print_all(replies(heap, &script)?.as_slice(), output)
+    print_all(heap, replies(heap, &script)?.as_slice(), output)
 }
