@@ -7,7 +7,7 @@ use Rattle.bank.specs.declared.address.Address.{Address}
 use Rattle.bank.specs.Addresses.{number_of}
 use Rattle.std.proofs.Math.ListN.{get_or-map}
 use Rattle.junction.specs.Feeding.{FeedMap, feeds_to, fed, next_from}
-use Rattle.junction.specs.Chains.{mapped, Chained, link, from, Feeder, LastBefore, first_put, next_put}
+use Rattle.junction.specs.Chains.{mapped, Chained, link, place_after, Feeder, LastBefore, first_put, next_put}
 use Rattle.junction.proofs.Walks.{found, passed, stop}
 
 -- the first port from i on that feeds p
@@ -72,14 +72,14 @@ one_or_apart f p None p' (Some q') h k = inr tt
 one_or_apart f p (Some q) p' None h k = inr tt
 one_or_apart f p (Some q) p' (Some q') h k = ⊎_elim (λ (e : q ≡ q'). inl (sym h ∙ ap f e ∙ k, ap Some e)) (λ (e : q ≢ q'). inr e) (cases_eq q q')
 
-placed : (f : ℕ → ℕ) (first next : List (Option Address)) → Chained f first next → (p : ℕ) → p < 32 → (r : Option ℕ) → from r ≤ 32 → Feeder f p r → at_place first next p r ≡ onward f p (from r)
+placed : (f : ℕ → ℕ) (first next : List (Option Address)) → Chained f first next → (p : ℕ) → p < 32 → (r : Option ℕ) → place_after r ≤ 32 → Feeder f p r → at_place first next p r ≡ onward f p (place_after r)
 placed f first next was p low None in_range feeds = was.firsts p low
 placed f first next was p low (Some q) in_range feeds =
     let e : 31 - q ≡ 32 - (q + 1) = omega arith in
     was.nexts q (omega arith) ∙ (λ i. next_from f (feeds i) (q + 1) (e i))
 
 -- what stands at each place says what the chains are
-chained_places : (f : ℕ → ℕ) (first next : List (Option Address)) → ((q : ℕ) → q < 32 → f q < 32) → ((p : ℕ) → p < 32 → (r : Option ℕ) → from r ≤ 32 → Feeder f p r → at_place first next p r ≡ onward f p (from r)) → Chained f first next
+chained_places : (f : ℕ → ℕ) (first next : List (Option Address)) → ((q : ℕ) → q < 32 → f q < 32) → ((p : ℕ) → p < 32 → (r : Option ℕ) → place_after r ≤ 32 → Feeder f p r → at_place first next p r ≡ onward f p (place_after r)) → Chained f first next
 chained_places f first next inside h = record {
   firsts = λ p low. h p low None (omega arith) tt;
   nexts = λ q low. let e : 32 - (q + 1) ≡ 31 - q = omega arith in h (f q) (inside q low) (Some q) (omega arith) refl ∙ ap (next_from f (f q) (q + 1)) e;
@@ -87,9 +87,9 @@ chained_places f first next inside h = record {
 
 -- ---- a port put at a place
 module _ (first next : List (Option Address)) (p : ℕ) (x v : Option Address) where
-  put_here : length first ≡ 32 → length next ≡ 32 → p < 32 → from (option_map number_of x) ≤ 32 → at_place (first_put first p x v) (next_put next x v) p (option_map number_of x) ≡ option_map number_of v
+  put_here : length first ≡ 32 → length next ≡ 32 → p < 32 → place_after (option_map number_of x) ≤ 32 → at_place (first_put first p x v) (next_put next x v) p (option_map number_of x) ≡ option_map number_of v
   put_here long wide low in_range = by_hand x in_range where
-    by_hand : (x : Option Address) → from (option_map number_of x) ≤ 32 → at_place (first_put first p x v) (next_put next x v) p (option_map number_of x) ≡ option_map number_of v
+    by_hand : (x : Option Address) → place_after (option_map number_of x) ≤ 32 → at_place (first_put first p x v) (next_put next x v) p (option_map number_of x) ≡ option_map number_of v
     by_hand None h = ap (option_map number_of) (get_or-set_same first p v None (omega arith))
     by_hand (Some q) h = ap (option_map number_of) (get_or-set_same next q.number v None (omega arith))
 
@@ -142,7 +142,7 @@ module _ (f : ℕ → ℕ) (p : ℕ) where
       }
 
 -- ---- what is before the port b in the chain of p, and not the last there, has a port after it before b
-ahead : (f : ℕ → ℕ) (p b : ℕ) (last r : Option ℕ) → LastBefore f p b last → Feeder f p r → from r ≤ b → Apart p r p last → (s : ℕ) × (f s ≡ p) × (s < b) × (from r ≤ s)
+ahead : (f : ℕ → ℕ) (p b : ℕ) (last r : Option ℕ) → LastBefore f p b last → Feeder f p r → place_after r ≤ b → Apart p r p last → (s : ℕ) × (f s ≡ p) × (s < b) × (place_after r ≤ s)
 ahead f p b None None h feeds l apart = absurd (apart refl)
 ahead f p b None (Some q) h feeds l apart = absurd (h.between q (omega arith) (omega arith) feeds)
 ahead f p b (Some s) None h feeds l apart = (s, h.feeds, omega (arith, h.before), omega arith)
@@ -170,25 +170,25 @@ module _ (f g : ℕ → ℕ) (o a : ℕ) (y : Address) (differ : o ≢ a) (fed_o
       (cases_eq q y.number))
 
   -- a place before y from which the walk meets a port before y
-  alike_ahead : (p : ℕ) (last r : Option ℕ) → LastBefore f p y.number last → Feeder f p r → from r ≤ y.number → Apart p r p last → onward f p (from r) ≡ onward g p (from r)
+  alike_ahead : (p : ℕ) (last r : Option ℕ) → LastBefore f p y.number last → Feeder f p r → place_after r ≤ y.number → Apart p r p last → onward f p (place_after r) ≡ onward g p (place_after r)
   alike_ahead p last r h feeds l apart =
       let w = ahead f p y.number last r h feeds l apart in
-      alike_to f g p w.0 (32 - from r) (from r) (λ q k. same_before q (omega (arith, w.2))) w.1 w.3 (omega (arith, y.low, w.2))
+      alike_to f g p w.0 (32 - place_after r) (place_after r) (λ q k. same_before q (omega (arith, w.2))) w.1 w.3 (omega (arith, y.low, w.2))
 
   -- the walk comes to y
-  to_it : (h : ℕ → ℕ) (p : ℕ) (last : Option ℕ) → LastBefore f p y.number last → ((q : ℕ) → q < y.number → h q ≡ f q) → onward h p (from last) ≡ onward h p y.number
+  to_it : (h : ℕ → ℕ) (p : ℕ) (last : Option ℕ) → LastBefore f p y.number last → ((q : ℕ) → q < y.number → h q ≡ f q) → onward h p (place_after last) ≡ onward h p y.number
   to_it h p last is alike =
-      onward_skip h p (y.number - from last) (from last) y.number (omega (arith, is.before)) (omega (arith, y.low))
+      onward_skip h p (y.number - place_after last) (place_after last) y.number (omega (arith, is.before)) (omega (arith, y.low))
       (λ q l k. λ (e : h q ≡ p). is.between q l k (sym (alike q k) ∙ e))
 
   -- before y the two maps feed alike, and y alone came to a
-  to_new : (p : ℕ) (r : Option ℕ) → from r ≤ y.number → Feeder f p r → Feeder g p r
+  to_new : (p : ℕ) (r : Option ℕ) → place_after r ≤ y.number → Feeder f p r → Feeder g p r
   to_new p None l feeds = tt
   to_new p (Some q) l feeds = same_before q (omega arith) ∙ feeds
 
   module _ (first next : List (Option Address)) (long : length first ≡ 32) (wide : length next ≡ 32) (o_low : o < 32) (a_low : a < 32) (inside : (q : ℕ) → q < 32 → g q < 32) (was : Chained f first next)
       (x z v w : Option Address) (last_o : LastBefore f o y.number (option_map number_of x)) (last_a : LastBefore f a y.number (option_map number_of z))
-      (v_is : option_map number_of v ≡ onward f o (y.number + 1)) (w_is : option_map number_of w ≡ onward f a (from (option_map number_of z))) where
+      (v_is : option_map number_of v ≡ onward f o (y.number + 1)) (w_is : option_map number_of w ≡ onward f a (place_after (option_map number_of z))) where
     low : y.number < 32
     low = omega (arith, y.low)
 
@@ -199,7 +199,7 @@ module _ (f g : ℕ → ℕ) (o a : ℕ) (y : Address) (differ : o ≢ a) (fed_o
     length_next_put = next_put_long next x v ∙ wide
 
     -- where it is put, the walk came to it
-    arrived : option_map number_of (Some y) ≡ onward g a (from (option_map number_of z))
+    arrived : option_map number_of (Some y) ≡ onward g a (place_after (option_map number_of z))
     arrived = sym (onward_found g a y.number low feeds_a) ∙ sym (to_it g a (option_map number_of z) last_a same_before)
 
     -- past it the chain of a goes on as before
@@ -210,7 +210,7 @@ module _ (f g : ℕ → ℕ) (o a : ℕ) (y : Address) (differ : o ≢ a) (fed_o
         ∙ ap (onward f a) e ∙ alike_after a (y.number + 1) (omega arith)
 
     -- where it left, the chain of o goes on with what came after it
-    closed : option_map number_of v ≡ onward g o (from (option_map number_of x))
+    closed : option_map number_of v ≡ onward g o (place_after (option_map number_of x))
     closed =
         let e : y.number + 1 ≡ suc y.number = omega arith in
         v_is ∙ alike_after o (y.number + 1) (omega arith) ∙ ap (onward g o) e
@@ -218,37 +218,37 @@ module _ (f g : ℕ → ℕ) (o a : ℕ) (y : Address) (differ : o ≢ a) (fed_o
         ∙ sym (to_it g o (option_map number_of x) last_o same_before)
 
     -- the other places
-    kept : (p : ℕ) (r : Option ℕ) → Feeder f p r → Apart p r o (option_map number_of x) → Apart p r a (option_map number_of z) → onward f p (from r) ≡ onward g p (from r)
+    kept : (p : ℕ) (r : Option ℕ) → Feeder f p r → Apart p r o (option_map number_of x) → Apart p r a (option_map number_of z) → onward f p (place_after r) ≡ onward g p (place_after r)
     kept p r feeds off_o off_a =
         ⊎_elim
-        (λ (l : y.number < from r). alike_after p (from r) l)
-        (λ (l : from r ≤ y.number).
+        (λ (l : y.number < place_after r). alike_after p (place_after r) l)
+        (λ (l : place_after r ≤ y.number).
         ⊎_elim
         (λ (e : p ≡ o).
-        subst (λ (k : ℕ). onward f k (from r) ≡ onward g k (from r)) (sym e)
+        subst (λ (k : ℕ). onward f k (place_after r) ≡ onward g k (place_after r)) (sym e)
         (alike_ahead o (option_map number_of x) r last_o (subst (λ (k : ℕ). Feeder f k r) e feeds) l (subst (λ (k : ℕ). Apart k r o (option_map number_of x)) e off_o)))
         (λ (not_o : p ≢ o).
         ⊎_elim
         (λ (e : p ≡ a).
-        subst (λ (k : ℕ). onward f k (from r) ≡ onward g k (from r)) (sym e)
+        subst (λ (k : ℕ). onward f k (place_after r) ≡ onward g k (place_after r)) (sym e)
         (alike_ahead a (option_map number_of z) r last_a (subst (λ (k : ℕ). Feeder f k r) e feeds) l (subst (λ (k : ℕ). Apart k r a (option_map number_of z)) e off_a)))
-        (λ (not_a : p ≢ a). alike_other p (from r) not_o not_a)
+        (λ (not_a : p ≢ a). alike_other p (place_after r) not_o not_a)
         (cases_eq p a))
         (cases_eq p o))
-        (cases_lt y.number (from r))
+        (cases_lt y.number (place_after r))
 
-    left : (p : ℕ) → p < 32 → (r : Option ℕ) → from r ≤ 32 → Feeder f p r → Apart p r a (option_map number_of z) → at_place (first_put first o x v) (next_put next x v) p r ≡ onward g p (from r)
+    left : (p : ℕ) → p < 32 → (r : Option ℕ) → place_after r ≤ 32 → Feeder f p r → Apart p r a (option_map number_of z) → at_place (first_put first o x v) (next_put next x v) p r ≡ onward g p (place_after r)
     left p p_low r in_range feeds off_a =
         ⊎_elim
         (λ (e : (p ≡ o) × (r ≡ option_map number_of x)).
         (λ i. at_place (first_put first o x v) (next_put next x v) (e.0 i) (e.1 i))
         ∙ put_here first next o x v long wide o_low (omega (arith, last_o.before))
-        ∙ closed ∙ sym (λ i. onward g (e.0 i) (from (e.1 i))))
+        ∙ closed ∙ sym (λ i. onward g (e.0 i) (place_after (e.1 i))))
         (λ (off_o : Apart p r o (option_map number_of x)). put_apart first next o x v p r off_o ∙ placed f first next was p p_low r in_range feeds ∙ kept p r feeds off_o off_a)
         (one_or_apart f p r o (option_map number_of x) feeds last_o.feeds)
 
     -- the chains once it was taken out and knows what comes after it
-    stands : (p : ℕ) → p < 32 → (r : Option ℕ) → from r ≤ 32 → Feeder g p r → Apart p r a (option_map number_of z) → at_place (first_put first o x v) (set (next_put next x v) y.number w) p r ≡ onward g p (from r)
+    stands : (p : ℕ) → p < 32 → (r : Option ℕ) → place_after r ≤ 32 → Feeder g p r → Apart p r a (option_map number_of z) → at_place (first_put first o x v) (set (next_put next x v) y.number w) p r ≡ onward g p (place_after r)
     stands p p_low None in_range feeds off_a = left p p_low None in_range tt off_a
     stands p p_low (Some q) in_range feeds off_a =
         ⊎_elim
@@ -268,19 +268,19 @@ module _ (f g : ℕ → ℕ) (o a : ℕ) (y : Address) (differ : o ≢ a) (fed_o
         (λ (e : (p ≡ a) × (r ≡ option_map number_of z)).
         (λ i. at_place (first_put (first_put first o x v) a z (Some y)) (next_put (set (next_put next x v) y.number w) z (Some y)) (e.0 i) (e.1 i))
         ∙ put_here (first_put first o x v) (set (next_put next x v) y.number w) a z (Some y) length_first_put (length-set _ _ _ ∙ length_next_put) a_low (omega (arith, last_a.before))
-        ∙ arrived ∙ sym (λ i. onward g (e.0 i) (from (e.1 i))))
+        ∙ arrived ∙ sym (λ i. onward g (e.0 i) (place_after (e.1 i))))
         (λ (off_a : Apart p r a (option_map number_of z)). put_apart (first_put first o x v) (set (next_put next x v) y.number w) a z (Some y) p r off_a ∙ stands p p_low r in_range feeds off_a)
         (one_or_apart g p r a (option_map number_of z) feeds (to_new a (option_map number_of z) last_a.before last_a.feeds)))
 
 -- ---- what comes after the last port before another, as the code reads it
-pub after_none : (f : ℕ → ℕ) (p : ℕ) (last x : Option Address) → last ≡ None → option_map number_of x ≡ next_from f p 0 32 → option_map number_of x ≡ onward f p (from (option_map number_of last))
-after_none f p last x none is = is ∙ sym (ap (λ (o : Option Address). onward f p (from (option_map number_of o))) none)
+pub after_none : (f : ℕ → ℕ) (p : ℕ) (last x : Option Address) → last ≡ None → option_map number_of x ≡ next_from f p 0 32 → option_map number_of x ≡ onward f p (place_after (option_map number_of last))
+after_none f p last x none is = is ∙ sym (ap (λ (o : Option Address). onward f p (place_after (option_map number_of o))) none)
 
-pub after_some : (f : ℕ → ℕ) (p : ℕ) (last x : Option Address) (q : Address) → last ≡ Some q → Feeder f p (option_map number_of last) → option_map number_of x ≡ next_from f (f q.number) (q.number + 1) (31 - q.number) → option_map number_of x ≡ onward f p (from (option_map number_of last))
+pub after_some : (f : ℕ → ℕ) (p : ℕ) (last x : Option Address) (q : Address) → last ≡ Some q → Feeder f p (option_map number_of last) → option_map number_of x ≡ next_from f (f q.number) (q.number + 1) (31 - q.number) → option_map number_of x ≡ onward f p (place_after (option_map number_of last))
 after_some f p last x q some feeds is =
     let here : f q.number ≡ p = subst (λ (o : Option Address). Feeder f p (option_map number_of o)) some feeds in
     let e : 31 - q.number ≡ 32 - (q.number + 1) = omega arith in
-    is ∙ (λ i. next_from f (here i) (q.number + 1) (e i)) ∙ sym (ap (λ (o : Option Address). onward f p (from (option_map number_of o))) some)
+    is ∙ (λ i. next_from f (here i) (q.number + 1) (e i)) ∙ sym (ap (λ (o : Option Address). onward f p (place_after (option_map number_of o))) some)
 
 after_it : (f : ℕ → ℕ) (p q : ℕ) (x : Option Address) → p ≡ f q → option_map number_of x ≡ next_from f (f q) (q + 1) (31 - q) → option_map number_of x ≡ onward f p (q + 1)
 after_it f p q x here is = let e : 31 - q ≡ 32 - (q + 1) = omega arith in is ∙ sym (λ i. next_from f (here i) (q + 1) (sym e i))
@@ -321,7 +321,7 @@ module _ (js first next : List (Option Address)) (fs : FeedMap) (view : mapped j
 
   -- it fed the port o
   pub turned_moved : length first ≡ 32 → length next ≡ 32 → (o : Address) → o.number ≡ fed fs y.number → o.number ≢ above.number → (x z v w : Option Address) → LastBefore (fed fs) o.number y.number (option_map number_of x) → LastBefore (fed fs) above.number y.number (option_map number_of z)
-      → option_map number_of v ≡ next_from (fed fs) (fed fs y.number) (y.number + 1) (31 - y.number) → option_map number_of w ≡ onward (fed fs) above.number (from (option_map number_of z))
+      → option_map number_of v ≡ next_from (fed fs) (fed fs y.number) (y.number + 1) (31 - y.number) → option_map number_of w ≡ onward (fed fs) above.number (place_after (option_map number_of z))
       → Chained (fed (mapped (set js k (Some above)))) (first_put (first_put first o.number x v) above.number z (Some y)) (next_put (set (next_put next x v) y.number w) z (Some y))
   turned_moved long wide o fed_o differ x z v w last_o last_a v_is w_is =
       chained_moved (fed fs) _ o.number above.number y differ (sym fed_o) here other first next long wide (omega (arith, o.low)) (omega (arith, above.low)) (fed_inside (set js k (Some above))) was x z v w last_o last_a

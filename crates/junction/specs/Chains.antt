@@ -18,10 +18,10 @@ pub record Chained (f : ℕ → ℕ) (first next : List (Option Address)) : Type
   pub firsts : (p : ℕ) → p < 32 → link first p ≡ next_from f p 0 32
   pub nexts : (q : ℕ) → q < 32 → link next q ≡ next_from f (f q) (q + 1) (31 - q)
 
--- where a walk goes on from the port before, and where it begins
-abbrev pub from : Option ℕ → ℕ
-from None = 0
-from (Some q) = q + 1
+-- the place after a port, from which a walk goes on, or 0 before the first
+abbrev pub place_after : Option ℕ → ℕ
+place_after None = 0
+place_after (Some q) = q + 1
 
 -- a port, if there is one, feeds p
 abbrev pub Feeder : (ℕ → ℕ) → ℕ → Option ℕ → Type 0
@@ -31,8 +31,8 @@ Feeder f p (Some q) = f q ≡ p
 -- the last port that feeds p and comes before the port b, or none where none does
 pub record LastBefore (f : ℕ → ℕ) (p b : ℕ) (last : Option ℕ) : Type 0 where
   pub feeds : Feeder f p last
-  pub before : from last ≤ b
-  pub between : (q : ℕ) → from last ≤ q → q < b → f q ≢ p
+  pub before : place_after last ≤ b
+  pub between : (q : ℕ) → place_after last ≤ q → q < b → f q ≢ p
 
 -- the first ports of the chains once x comes in the chain of the port p after a port, or first where that is none
 abbrev pub first_put : List (Option Address) → ℕ → Option Address → Option Address → List (Option Address)

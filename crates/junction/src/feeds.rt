@@ -109,7 +109,7 @@ impl Feeds {
         self.joined[below.index()].unwrap_or(below)
     }
 
-    // The last port that feeds a port above and comes before a port below. Its chain ascends, so that the walk ends there or at the first port past it.
+    // The last port that feeds a port above and comes before a port below. Its chain ascends, so that the walk ends at the first port that is not before that one.
     fn last_before(&self, above: Address, below: Address) -> Option<Address>
         ensures { LastBefore (fed self.now) above.number below.number (option_map number_of result) }
     {

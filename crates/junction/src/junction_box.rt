@@ -46,7 +46,7 @@ impl<B: GaugeBank> JunctionBox<B> {
         self.feed(place, port)
     }
 
-    // Makes a port below feed a port above, and refuses a ninth gauge. It stands apart from `join` so that the compiler makes the new map in its place and does not copy it.
+    // Makes a port below feed a port above, and refuses a ninth gauge. A function of its own beside `join`, so that the compiler builds the new map where its gauges are counted, and moves it once.
     fn feed(&mut self, place: Address, port: Address) -> Result<(), Fault>
         ensures answer { result ≡ joining (B.shows self.old.below) self.old.feeds place.number port.number }
         ensures bank { self.new.below ≡ self.old.below }

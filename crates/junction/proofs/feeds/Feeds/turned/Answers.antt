@@ -3,7 +3,7 @@ use Rattle.std.specs.Option.{option_map}
 use Rattle.bank.specs.declared.address.Address.{Address}
 use Rattle.bank.specs.Addresses.{number_of}
 use Rattle.junction.specs.Feeding.{fed}
-use Rattle.junction.specs.Chains.{from, LastBefore, first_put, next_put}
+use Rattle.junction.specs.Chains.{place_after, LastBefore, first_put, next_put}
 use Rattle.junction.proofs.Chaining.{mapped_moved}
 use Rattle.junction.proofs.Moving.{onward, after_none, after_some, turned_still, turned_moved}
 use Rattle.junction.proofs.feeds.Feeds.turned.Goals as goal
@@ -35,7 +35,7 @@ invariant_of-turned c =
     let z = c.match-before.before in
     let z_is : z ≡ c.last_before-before.result = elim c.match-before.branch [ in-None k ↦ k.before-is | in-Some k ↦ k.before-is ∙ sym k.in-Some.is ] in
     let last : LastBefore f a y.number (option_map number_of z) = subst (λ (o : Option Address). LastBefore f a y.number (option_map number_of o)) (sym z_is) c.last_before-before.ensures in
-    let after : option_map number_of c.match-before.after ≡ onward f a (from (option_map number_of z)) = elim c.match-before.branch [
+    let after : option_map number_of c.match-before.after ≡ onward f a (place_after (option_map number_of z)) = elim c.match-before.branch [
       | in-None k ↦ ap (option_map number_of) k.after-is ∙ after_none f a z k.first-after.result (k.before-is ∙ k.in-None.is) k.first-after.ensures
       | in-Some k ↦ ap (option_map number_of) k.after-is ∙ after_some f a z k.next-after.result k.in-Some.q k.before-is last.feeds k.next-after.ensures
     ] in
