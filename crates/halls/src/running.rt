@@ -1,8 +1,8 @@
 // Goes through a script's steps, stage by stage, and collects a reply for each.
-ghost use Rattle.std.specs.Prelude.{◌≡◌, ◌++◌, IfSome, IfOk, OnOk, cond, is_ok, map, nat_lt, position, vec_items};
+ghost use Rattle.std.specs.Prelude.{◌≡◌, [], ◌∷◌, ◌++◌, IfSome, IfOk, OnOk, cond, is_ok, map, nat_lt, position, vec_items};
 ghost use Rattle.halls.specs.Stages.{rank};
 ghost use Rattle.halls.specs.Scripts.{met_of, course_of};
-ghost use Rattle.halls.specs.Said.{reply_of, lines_text};
+ghost use Rattle.halls.specs.Said.{reply_of, reply_text, lines_text};
 ghost use Rattle.std.specs.Io.KnownBytes.{Appends, Keeps, append_known};
 ghost use Rattle.halls.specs.Bases.{base_of, chosen};
 ghost use Rattle.halls.specs.Stands.{new_box, shown};
@@ -132,6 +132,13 @@ pub fn replies<'a>(heap: Global, script: &'a Script) -> Result<Vec<Reply<'a>>, A
     )
 }
 
+// Adds the line of a reply to a block.
+fn add_line(reply: &Reply<'_>, block: &mut Vec<u8>) -> io::Result<()>
+    ensures { OnOk result (vec_items block.new ≡ vec_items block.old ++ (reply_text (reply_of reply.now) ++ 10 ∷ [])) }
+{
+    writeln!(block, "{reply}")
+}
+
 // Hands a block of lines on once it is long enough.
 fn hand_on<W: Write>(block: &mut Vec<u8>, output: &mut W) -> io::Result<()>
     ensures { OnOk result (Keeps (append_known (W.contents output.old) (vec_items block.old)) (append_known (W.contents output.new) (vec_items block.new))) }
@@ -149,7 +156,7 @@ fn print_all<W: Write>(heap: Global, replies: &[Reply<'_>], output: &mut W) -> i
 {
     let mut block = Vec::with_capacity(heap, BLOCK)?;
     for reply in replies {
-        writeln!(block, "{reply}")?;
+        add_line(reply, &mut block)?;
         hand_on(&mut block, output)?;
     }
     output.write_all(block.as_slice())
