@@ -22,7 +22,7 @@ use std::alloc::{AllocError, Global};
 use std::io::{self, Read, Write};
 use terminal::Terminal;
 
-// So many bytes of lines are printed at once.
+// From so many bytes on a block of lines is printed.
 const BLOCK: usize = 8192;
 
 // The place of the first step that comes after a stage.

@@ -10,6 +10,7 @@ mod Counted
 mod Drained
 mod Walks
 mod Chaining
+mod Places
 mod Moving
 pub mod Rejoined
 pub mod Piles

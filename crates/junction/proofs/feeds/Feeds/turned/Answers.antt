@@ -5,7 +5,8 @@ use Rattle.bank.specs.Addresses.{number_of}
 use Rattle.junction.specs.Feeding.{fed}
 use Rattle.junction.specs.Chains.{place_after, LastBefore, first_put, next_put}
 use Rattle.junction.proofs.Chaining.{mapped_moved}
-use Rattle.junction.proofs.Moving.{onward, after_none, after_some, turned_still, turned_moved}
+use Rattle.junction.proofs.Places.{onward}
+use Rattle.junction.proofs.Moving.{after_none, after_some, turned_still, turned_moved}
 use Rattle.junction.proofs.feeds.Feeds.turned.Goals as goal
 use Rattle.junction.proofs.feeds.Feeds.turned.Goals.{in-None, in-Some}
 
