@@ -1,5 +1,5 @@
 // Goes through a script's steps, stage by stage, and collects a reply for each.
-ghost use Rattle.std.specs.Prelude.{◌≡◌, [], ◌∷◌, ◌++◌, IfSome, IfOk, OnOk, cond, is_ok, map, nat_lt, position, vec_items};
+ghost use Rattle.std.specs.Prelude.{◌≡◌, ◌<◌, [], ◌∷◌, ◌++◌, IfSome, IfOk, OnOk, cond, is_ok, length, map, nat_lt, position, vec_items};
 ghost use Rattle.halls.specs.Stages.{rank};
 ghost use Rattle.halls.specs.Scripts.{met_of, course_of};
 ghost use Rattle.halls.specs.Said.{reply_of, reply_text, lines_text};
@@ -139,9 +139,10 @@ fn add_line(reply: &Reply<'_>, block: &mut Vec<u8>) -> io::Result<()>
     writeln!(block, "{reply}")
 }
 
-// Hands a block of lines on once it is long enough.
+// Hands a block of lines on once it is long enough: less than a block is kept back.
 fn hand_on<W: Write>(block: &mut Vec<u8>, output: &mut W) -> io::Result<()>
-    ensures { OnOk result (Keeps (append_known (W.contents output.old) (vec_items block.old)) (append_known (W.contents output.new) (vec_items block.new))) }
+    ensures bytes { OnOk result (Keeps (append_known (W.contents output.old) (vec_items block.old)) (append_known (W.contents output.new) (vec_items block.new))) }
+    ensures kept_back { OnOk result (length (vec_items block.new) < 8192) }
 {
     if block.len() >= BLOCK {
         output.write_all(block.as_slice())?;

@@ -11,4 +11,4 @@ loop-reply-preserved g c =
     let i = c.loop-reply.reply-index in
     let lines = lines_text (map reply_of (take i rs)) in
     subst (Appends (W c.args.output.now) (append_known (W c.hand_on.new.output) (vec_items c.hand_on.new.block))) (ap (λ r. lines ++ (reply_text (reply_of r) ++ 10 ∷ [])) c.reply-item.is ∙ lines_more rs i _ (omega arith))
-    (printed_more (W c.args.output.now) (W c.loop-reply.output) (W c.hand_on.new.output) (vec_items c.loop-reply.block) (vec_items c.add_line.new.block) (vec_items c.hand_on.new.block) _ _ c.loop-reply.invariant c.in_ok-add_line.ensures c.in_ok-hand_on.ensures)
+    (printed_more (W c.args.output.now) (W c.loop-reply.output) (W c.hand_on.new.output) (vec_items c.loop-reply.block) (vec_items c.add_line.new.block) (vec_items c.hand_on.new.block) _ _ c.loop-reply.invariant c.in_ok-add_line.ensures c.in_ok-hand_on.ensures.bytes)
